@@ -1,0 +1,17 @@
+//! Guards that look objects up instead of going through the rows.
+#![tactic(auto)]
+
+mod candidates;
+mod index;
+mod lookups;
+mod place_sets;
+mod places;
+mod row_search;
+mod row_sets;
+mod rules;
+
+pub use index::{ConflictIndex, Indexable};
+pub use rules::{CommuteIndex, SerialIndex, SnapshotIndex};
+
+#[cfg(test)]
+mod tests;

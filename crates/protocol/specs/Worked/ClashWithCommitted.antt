@@ -1,0 +1,96 @@
+-- A transaction that read a version before a committed write aborts; one that read it commits.
+use Rattle.std.specs.Prelude.{List, [], ◌∷◌, true, false, Some, codes}
+use Rattle.tcs_terms.specs.declared.ids.TxId.{TxId}
+use Rattle.tcs_terms.specs.declared.inputs.Event.{Event}
+use Rattle.tcs_terms.specs.declared.inputs.Note.{Note}
+use Rattle.tcs_terms.specs.declared.inputs.Result1.{Result1}
+use Rattle.tcs_terms.specs.declared.messages.Message.TheVariants.{Prepare, PrepareAck, DecisionFor, OutcomeOf}
+use Rattle.tcs_terms.specs.declared.setups.Rule.TheVariants.{Serial}
+use Rattle.tcs_terms.specs.declared.votes.Vote.TheVariants as votes
+use Rattle.tcs_terms.specs.declared.votes.Cause.TheVariants as causes
+use Rattle.tcs_terms.specs.declared.votes.Decision.TheVariants as decisions
+use Rattle.tcs_terms.specs.Payloads.{Accesses}
+use Rattle.tcs_terms.specs.Setups.{Deployment}
+use Rattle.cert_serial.specs.Serial.{serial}
+use Rattle.protocol.specs.World.{Sent}
+use Rattle.protocol.specs.Worked.Words.{deployment, config, txn, payload, reads, writes, entry, certify, deliver, begin, decide, sent, acted, Shows}
+
+abbrev pub payload_1 : Accesses
+payload_1 = payload (reads (codes "a") 0 ∷ []) [] (writes (codes "a") (5 ∷ []) ∷ []) 1
+
+abbrev pub payload_2 : Accesses
+payload_2 = payload (reads (codes "a") 1 ∷ []) [] (writes (codes "a") (6 ∷ []) ∷ []) 2
+
+abbrev pub payload_3 : Accesses
+payload_3 = payload (reads (codes "a") 0 ∷ []) [] [] 2
+
+abbrev pub setup : Deployment
+setup = deployment 1 Serial (1 ∷ []) (config 1 1 (1 ∷ []) 1 0 ∷ [])
+
+-- what happens
+abbrev pub events : List Event
+events =
+    certify 1 payload_1
+    ∷ deliver 1
+    ∷ deliver 2
+    ∷ deliver 3
+    ∷ certify 1 payload_2
+    ∷ deliver 5
+    ∷ certify 1 payload_3
+    ∷ deliver 7
+    ∷ deliver 8
+    ∷ deliver 6
+    ∷ []
+
+-- what each event comes to
+abbrev pub results : List Result1
+results =
+    acted
+    ∷ acted
+    ∷ acted
+    ∷ acted
+    ∷ acted
+    ∷ acted
+    ∷ acted
+    ∷ acted
+    ∷ acted
+    ∷ acted
+    ∷ []
+
+-- what is noted
+abbrev pub history : List Note
+history =
+    begin (txn 1 1) payload_1
+    ∷ decide (txn 1 1) decisions.Commit
+    ∷ begin (txn 1 2) payload_2
+    ∷ begin (txn 1 3) payload_3
+    ∷ decide (txn 1 3) (decisions.Abort 1 (causes.Clash (txn 1 1)))
+    ∷ decide (txn 1 2) decisions.Commit
+    ∷ []
+
+-- what is sent, from message 1 on
+abbrev pub messages : List Sent
+messages =
+    sent 1 1 (Prepare 1 (txn 1 1) (1 ∷ []) (Some payload_1))
+    ∷ sent 1 1 (PrepareAck 1 1 (entry 1 (txn 1 1) (1 ∷ []) (Some payload_1) votes.Commit))
+    ∷ sent 1 1 (DecisionFor 1 1 (txn 1 1) true)
+    ∷ sent 1 1 (OutcomeOf (txn 1 1) decisions.Commit)
+    ∷ sent 1 1 (Prepare 1 (txn 1 2) (1 ∷ []) (Some payload_2))
+    ∷ sent 1 1 (PrepareAck 1 1 (entry 2 (txn 1 2) (1 ∷ []) (Some payload_2) votes.Commit))
+    ∷ sent 1 1 (Prepare 1 (txn 1 3) (1 ∷ []) (Some payload_3))
+    ∷ sent 1 1 (PrepareAck 1 1 (entry 3 (txn 1 3) (1 ∷ []) (Some payload_3) (votes.Clash (txn 1 1))))
+    ∷ sent 1 1 (DecisionFor 1 3 (txn 1 3) false)
+    ∷ sent 1 1 (OutcomeOf (txn 1 3) (decisions.Abort 1 (causes.Clash (txn 1 1))))
+    ∷ sent 1 1 (DecisionFor 1 2 (txn 1 2) true)
+    ∷ sent 1 1 (OutcomeOf (txn 1 2) decisions.Commit)
+    ∷ []
+
+-- the transactions that commit, by their first decisions
+abbrev pub order : List TxId
+order =
+    txn 1 1
+    ∷ txn 1 2
+    ∷ []
+
+abbrev pub ClashWithCommittedShows : Type 0
+ClashWithCommittedShows = Shows serial setup events results history messages order

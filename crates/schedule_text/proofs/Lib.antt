@@ -1,0 +1,2 @@
+mod BufferLemmas
+pub mod LineLemmas

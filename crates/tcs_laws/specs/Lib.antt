@@ -1,0 +1,5 @@
+pub mod Certification
+pub mod Votes
+pub mod Writing
+pub mod Laws
+pub mod Rows

@@ -1,0 +1,15 @@
+pub mod BoolLaws
+pub mod OrderLaws
+pub mod NameLaws
+pub mod PayloadLaws
+pub mod PlaceLaws
+pub mod NumberLaws
+pub mod ValueLaws
+pub mod WordLaws
+pub mod PartLoops
+pub mod WordReadings
+pub mod RowLaws
+pub mod SetupLaws
+pub mod ShardLaws
+pub mod PayloadReadings
+pub mod PayloadSpelling

@@ -1,0 +1,21 @@
+//! The one answer that is always free: want of memory.
+
+use std::alloc::{AllocError, AllocFailed};
+use thiserror::Error;
+
+/// There was no memory for what a call had to keep.
+#[derive(Clone, Copy, Debug, PartialEq, Eq, Error)]
+#[error("out of memory")]
+pub struct OutOfMemory;
+
+impl From<AllocError> for OutOfMemory {
+    fn from(_e: AllocError) -> OutOfMemory {
+        OutOfMemory
+    }
+}
+
+impl<T: Drop> From<AllocFailed<T>> for OutOfMemory {
+    fn from(_e: AllocFailed<T>) -> OutOfMemory {
+        OutOfMemory
+    }
+}

@@ -1,0 +1,13 @@
+pub mod Counts
+pub mod Fields
+pub mod Loop
+pub mod NumberFields
+pub mod SetFields
+pub mod NameFields
+pub mod ReadFields
+pub mod PayloadFields
+pub mod SeenRows
+pub mod EntryFields
+pub mod OutcomeFields
+pub mod MessageFields
+pub mod FrameLaws

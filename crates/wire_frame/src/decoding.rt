@@ -1,0 +1,104 @@
+//! Bytes to messages.
+ghost use Rattle.std.specs.Prelude.{◌≡◌, Ok, IfOk};
+ghost use Rattle.tcs_terms.specs.declared.messages.Message.{Message};
+ghost use Rattle.tcs_terms.specs.Messages.{InRange};
+ghost use Rattle.wire_frame.specs.declared.faults.FrameReason.TheVariants.{Kind};
+ghost use Rattle.wire_frame.specs.Spelling.{spell};
+ghost use Rattle.wire_frame.specs.Reading.{Gives, byte_at, tested};
+ghost use Rattle.wire_frame.specs.Frames.{is_kind, body_at, message_at, read_frame, Decodes, IsMemoryOr};
+
+use crate::faults::{DecodeFault, FrameReason, ReadError};
+use crate::messages::{
+    accept_ack_of, accept_of, at_of, cas_of, config_change_of, decision_for_of, last_of,
+    new_config_of, outcome_of, prepare_ack_of, prepare_of, probe_ack_of, probe_of, refused_of,
+    stored_of,
+};
+use crate::numbers::{bad_at, byte_of, is_up_to};
+use crate::states::{new_state_of, state_piece_of};
+use std::alloc::Global;
+use tcs_terms::Message;
+
+fn kind_of(bytes: &[u8]) -> Result<(u8, &[u8]), ReadError>
+    ensures { Gives (λ x. (x.0, x.1.now)) result (tested Kind is_kind byte_at bytes.now) }
+{
+    let (kind, rest) = byte_of(bytes)?;
+    if !is_up_to(17, kind as u32) {
+        return Err(bad_at(FrameReason::Kind, bytes));
+    }
+    Ok((kind, rest))
+}
+
+/// A message of this kind.
+#[tactic(auto, unfolding(crate::specs::Frames::body_at))]
+fn body_of(alloc: Global, kind: u8, bytes: &[u8]) -> Result<(Message, &[u8]), ReadError>
+    ensures { Gives (λ x. (x.0, x.1.now)) result (body_at kind bytes.now) }
+{
+    match kind {
+        1 => prepare_of(alloc, bytes),
+        2 => prepare_ack_of(alloc, bytes),
+        3 => accept_of(alloc, bytes),
+        4 => accept_ack_of(bytes),
+        5 => decision_for_of(bytes),
+        6 => probe_of(bytes),
+        7 => probe_ack_of(bytes),
+        8 => new_config_of(alloc, bytes),
+        9 => new_state_of(alloc, bytes),
+        10 => config_change_of(alloc, bytes),
+        11 => last_of(bytes),
+        12 => at_of(bytes),
+        13 => cas_of(alloc, bytes),
+        14 => stored_of(alloc, bytes),
+        15 => outcome_of(bytes),
+        16 => refused_of(bytes),
+        _ => state_piece_of(alloc, bytes),
+    }
+}
+
+#[tactic(auto, unfolding(crate::specs::Frames::message_at))]
+fn message_of(alloc: Global, bytes: &[u8]) -> Result<(Message, &[u8]), ReadError>
+    ensures { Gives (λ x. (x.0, x.1.now)) result (message_at bytes.now) }
+{
+    let (kind, rest) = kind_of(bytes)?;
+    body_of(alloc, kind, rest)
+}
+
+#[tactic(auto, unfolding(crate::specs::Frames::read_frame))]
+fn whole_message(alloc: Global, bytes: &[u8]) -> Result<Message, ReadError>
+    ensures { Gives (λ m. m) result (read_frame bytes.now) }
+{
+    let (message, rest) = message_of(alloc, bytes)?;
+    if !rest.is_empty() {
+        return Err(bad_at(FrameReason::Trailing, rest));
+    }
+    Ok(message)
+}
+
+#[tactic(auto, unfolding(crate::specs::Frames::fault))]
+fn placed(alloc: Global, frame: &[u8]) -> Result<Message, DecodeFault>
+    ensures { Decodes frame.now result }
+{
+    match whole_message(alloc, frame) {
+        Ok(message) => Ok(message),
+        Err(ReadError::Bad(fault)) => Err(DecodeFault::Bad {
+            reason: fault.reason,
+            place: frame.len().saturating_sub(fault.left),
+        }),
+        Err(ReadError::Memory) => Err(DecodeFault::OutOfMemory),
+    }
+}
+
+/// The message that a frame spells.
+///
+/// # Errors
+/// `Bad` exactly where the frame spells no message in range, with the reason and the place of its first fault from
+/// the left.
+pub fn decode(alloc: Global, frame: &[u8]) -> Result<Message, DecodeFault>
+    // What is decoded is in range, and the frame is its spelling.
+    ensures found { IfOk result (λ m. InRange m × (frame.now ≡ spell m)) }
+    // The spelling of a message in range is decoded as that message, unless memory runs out.
+    ensures only { (m : Message) → InRange m → frame.now ≡ spell m → IsMemoryOr m result }
+    // Any other frame is refused by its first fault.
+    ensures exact { Decodes frame.now result }
+{
+    placed(alloc, frame)
+}
