@@ -6,3 +6,4 @@ pub mod Voting
 pub mod Rising
 pub mod Growing
 pub mod RowChanges
+pub mod LastRow

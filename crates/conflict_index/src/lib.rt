@@ -14,4 +14,8 @@ pub use index::{ConflictIndex, Indexable};
 pub use rules::{CommuteIndex, SerialIndex, SnapshotIndex};
 
 #[cfg(test)]
+mod generated;
+#[cfg(test)]
+mod side_by_side;
+#[cfg(test)]
 mod tests;
