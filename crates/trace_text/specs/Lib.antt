@@ -1,0 +1,5 @@
+pub mod Texts
+pub mod Versions
+pub mod Lines
+pub mod Words
+pub mod Readings
