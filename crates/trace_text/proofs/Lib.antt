@@ -1,3 +1,4 @@
+pub mod Appending
 pub mod Steps
 pub mod Cuts
 pub mod WordLists
@@ -11,3 +12,4 @@ pub mod FrameWords
 pub mod OrderWords
 pub mod LineWords
 pub mod Answering
+pub mod TraceLaws

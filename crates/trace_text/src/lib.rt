@@ -11,11 +11,13 @@ mod printers;
 mod printing;
 mod reader;
 mod results;
+#[cfg(test)]
+mod tests;
 mod versions;
 mod words;
 
 pub use items::{TraceFault, TraceItem, TxList};
-pub use laws::one_reading;
+pub use laws::{happenings_are_printed, one_reading, traces_are_read};
 pub use printers::{
     print_happening, print_head, print_kind, print_message, print_note, print_result, print_tail,
 };

@@ -1,32 +1,35 @@
 //! The printers of a trace. Each appends to a buffer; after want of memory the buffer begins with what it held.
-ghost use Rattle.std.specs.Prelude.{◌≡◌, ◌++◌, ◌&&◌, nat_le, slice_index, IsTrue, OnOk};
+ghost use Rattle.std.specs.Prelude.{◌≡◌, ◌++◌, ◌&&◌, nat_le, codes, decimal, slice_index, IsTrue, OnOk, OnErr};
 ghost use Rattle.std.specs.List.{flat_map};
+ghost use Rattle.hex.specs.Hex.{encode_lower};
 ghost use Rattle.tcs_terms.specs.declared.limits.TheConstants.{MAX_KIND};
+ghost use Rattle.trace_text.specs.Appends.{Begins};
 ghost use Rattle.trace_text.specs.Texts.{result_text, note_text, kind_text};
 ghost use Rattle.trace_text.specs.Lines.{HeadLine, EventLine, NoteLine, MessageLine, OrderLine, EndLine, printed};
 
 use crate::names::{kind_name, rule_name};
 use crate::printing::{
-    put, put_decision, put_handled, put_hex, put_number, put_order, put_txn, put_value,
+    put, put_decision, put_field, put_handled, put_hex, put_number, put_order, put_txn, put_value,
 };
 use tcs_terms::{NodeId, Note, OutOfMemory, Result1, Setup, TxId, print_payload};
 
 /// The first line: the version, the rule and the number of shards.
 pub fn print_head(setup: &Setup, out: &mut Vec<u8>) -> Result<(), OutOfMemory>
-    ensures { OnOk result (out.new.items ≡ out.old.items ++ printed (HeadLine setup.now.version setup.now.rule setup.now.shards)) }
+    ensures ok { OnOk result (out.new.items ≡ out.old.items ++ printed (HeadLine setup.now.version setup.now.rule setup.now.shards)) }
+    ensures err { OnErr result (Begins out.old.items out.new.items) }
 {
-    put(out, b"trace ")?;
-    put_number(out, u64::from(setup.version()))?;
+    put(out, b"trace")?;
+    put_field(out, u64::from(setup.version()))?;
     put(out, b" ")?;
     put(out, rule_name(setup.rule()))?;
-    put(out, b" ")?;
-    put_number(out, u64::from(setup.shards()))?;
+    put_field(out, u64::from(setup.shards()))?;
     put(out, b"\n")
 }
 
 /// The words of a result.
 pub fn print_result(result1: &Result1, out: &mut Vec<u8>) -> Result<(), OutOfMemory>
-    ensures { OnOk result (out.new.items ≡ out.old.items ++ result_text result1.now) }
+    ensures ok { OnOk result (out.new.items ≡ out.old.items ++ result_text result1.now) }
+    ensures err { OnErr result (Begins out.old.items out.new.items) }
 {
     match result1 {
         Result1::Node(handled) => put_handled(out, *handled),
@@ -36,7 +39,8 @@ pub fn print_result(result1: &Result1, out: &mut Vec<u8>) -> Result<(), OutOfMem
 }
 
 fn put_note(note: &Note, out: &mut Vec<u8>) -> Result<(), OutOfMemory>
-    ensures { OnOk result (out.new.items ≡ out.old.items ++ note_text note.now) }
+    ensures ok { OnOk result (out.new.items ≡ out.old.items ++ note_text note.now) }
+    ensures err { OnErr result (Begins out.old.items out.new.items) }
 {
     match note {
         Note::Begin { txn, payload } => {
@@ -72,7 +76,8 @@ fn put_note(note: &Note, out: &mut Vec<u8>) -> Result<(), OutOfMemory>
 
 /// The line of a note.
 pub fn print_note(note: &Note, out: &mut Vec<u8>) -> Result<(), OutOfMemory>
-    ensures { OnOk result (out.new.items ≡ out.old.items ++ printed (NoteLine note.now)) }
+    ensures ok { OnOk result (out.new.items ≡ out.old.items ++ printed (NoteLine note.now)) }
+    ensures err { OnErr result (Begins out.old.items out.new.items) }
 {
     put_note(note, out)?;
     put(out, b"\n")
@@ -81,9 +86,22 @@ pub fn print_note(note: &Note, out: &mut Vec<u8>) -> Result<(), OutOfMemory>
 /// The name of a kind of message, 1 to 17.
 pub fn print_kind(kind: u8, out: &mut Vec<u8>) -> Result<(), OutOfMemory>
     requires { IsTrue (nat_le 1 kind && nat_le kind MAX_KIND) }
-    ensures { OnOk result (out.new.items ≡ out.old.items ++ kind_text kind) }
+    ensures ok { OnOk result (out.new.items ≡ out.old.items ++ kind_text kind) }
+    ensures err { OnErr result (Begins out.old.items out.new.items) }
 {
     put(out, kind_name(kind))
+}
+
+/// The line of an event.
+fn put_event(k: u32, result1: &Result1, out: &mut Vec<u8>) -> Result<(), OutOfMemory>
+    ensures ok { OnOk result (out.new.items ≡ out.old.items ++ printed (EventLine k result1.now)) }
+    ensures err { OnErr result (Begins out.old.items out.new.items) }
+{
+    put(out, b"e")?;
+    put_field(out, u64::from(k))?;
+    put(out, b" ")?;
+    print_result(result1, out)?;
+    put(out, b"\n")
 }
 
 /// The line of an event, numbered from 1, with its result, and the lines of its notes.
@@ -93,23 +111,46 @@ pub fn print_happening(
     notes: &[Note],
     out: &mut Vec<u8>,
 ) -> Result<(), OutOfMemory>
-    ensures { OnOk result (out.new.items ≡ out.old.items ++ printed (EventLine k result1.now) ++ flat_map (λ note. printed (NoteLine note)) notes.now) }
+    ensures ok { OnOk result (out.new.items ≡ out.old.items ++ printed (EventLine k result1.now) ++ flat_map (λ note. printed (NoteLine note)) notes.now) }
+    ensures err { OnErr result (Begins out.old.items out.new.items) }
 {
-    put(out, b"e ")?;
-    put_number(out, u64::from(k))?;
-    put(out, b" ")?;
-    print_result(result1, out)?;
-    put(out, b"\n")?;
+    put_event(k, result1, out)?;
     print_notes(notes, out)
 }
 
 fn print_notes(notes: &[Note], out: &mut Vec<u8>) -> Result<(), OutOfMemory>
-    ensures { OnOk result (out.new.items ≡ out.old.items ++ flat_map (λ note. printed (NoteLine note)) notes.now) }
+    ensures ok { OnOk result (out.new.items ≡ out.old.items ++ flat_map (λ note. printed (NoteLine note)) notes.now) }
+    ensures err { OnErr result (Begins out.old.items out.new.items) }
 {
     for note in notes {
-        print_note(note, out)?;
+        match print_note(note, out) {
+            Ok(()) => {}
+            Err(OutOfMemory) => return Err(OutOfMemory),
+        }
     }
     Ok(())
+}
+
+/// The number and the ends of a message.
+fn put_ends(number: u32, from: NodeId, to: NodeId, out: &mut Vec<u8>) -> Result<(), OutOfMemory>
+    ensures ok { OnOk result (out.new.items ≡ out.old.items ++ (codes "m " ++ decimal number ++ codes " " ++ decimal from ++ codes " " ++ decimal to)) }
+    ensures err { OnErr result (Begins out.old.items out.new.items) }
+{
+    put(out, b"m")?;
+    put_field(out, u64::from(number))?;
+    put_field(out, u64::from(from))?;
+    put_field(out, u64::from(to))
+}
+
+/// The kind of a frame, and the frame in hex.
+fn put_frame(frame: &[u8], out: &mut Vec<u8>) -> Result<(), OutOfMemory>
+    requires { IsTrue (nat_le 1 (slice_index frame.now 0) && nat_le (slice_index frame.now 0) MAX_KIND) }
+    ensures ok { OnOk result (out.new.items ≡ out.old.items ++ (kind_text (slice_index frame.now 0) ++ codes " " ++ encode_lower frame.now)) }
+    ensures err { OnErr result (Begins out.old.items out.new.items) }
+{
+    print_kind(first_byte(frame), out)?;
+    put(out, b" ")?;
+    put_hex(out, frame)
 }
 
 /// The line of a message, numbered from 1, from one node to another, whose frame begins with its kind, 1 to 17.
@@ -121,18 +162,12 @@ pub fn print_message(
     out: &mut Vec<u8>,
 ) -> Result<(), OutOfMemory>
     requires { IsTrue (nat_le 1 (slice_index frame.now 0) && nat_le (slice_index frame.now 0) MAX_KIND) }
-    ensures { OnOk result (out.new.items ≡ out.old.items ++ printed (MessageLine number from to frame.now)) }
+    ensures ok { OnOk result (out.new.items ≡ out.old.items ++ printed (MessageLine number from to frame.now)) }
+    ensures err { OnErr result (Begins out.old.items out.new.items) }
 {
-    put(out, b"m ")?;
-    put_number(out, u64::from(number))?;
+    put_ends(number, from, to, out)?;
     put(out, b" ")?;
-    put_number(out, u64::from(from))?;
-    put(out, b" ")?;
-    put_number(out, u64::from(to))?;
-    put(out, b" ")?;
-    print_kind(first_byte(frame), out)?;
-    put(out, b" ")?;
-    put_hex(out, frame)?;
+    put_frame(frame, out)?;
     put(out, b"\n")
 }
 
@@ -152,13 +187,13 @@ pub fn print_tail(
     messages: u32,
     out: &mut Vec<u8>,
 ) -> Result<(), OutOfMemory>
-    ensures { OnOk result (out.new.items ≡ out.old.items ++ printed (OrderLine order.now) ++ printed (EndLine events messages)) }
+    ensures ok { OnOk result (out.new.items ≡ out.old.items ++ printed (OrderLine order.now) ++ printed (EndLine events messages)) }
+    ensures err { OnErr result (Begins out.old.items out.new.items) }
 {
     put(out, b"order ")?;
     put_order(out, order)?;
-    put(out, b"\nend ")?;
-    put_number(out, u64::from(events))?;
-    put(out, b" ")?;
-    put_number(out, u64::from(messages))?;
+    put(out, b"\nend")?;
+    put_field(out, u64::from(events))?;
+    put_field(out, u64::from(messages))?;
     put(out, b"\n")
 }

@@ -1,28 +1,33 @@
 //! The parts of a trace's text, each appended to a buffer.
-ghost use Rattle.std.specs.Prelude.{◌≡◌, ◌++◌, codes, decimal, OnOk};
+ghost use Rattle.std.specs.Prelude.{◌≡◌, ◌++◌, codes, decimal, OnOk, OnErr};
 ghost use Rattle.std.specs.List.{flat_map};
 ghost use Rattle.hex.specs.Hex.{encode_lower};
 ghost use Rattle.tcs_terms.specs.PayloadText.{value_text};
+ghost use Rattle.trace_text.specs.Appends.{Begins};
 ghost use Rattle.trace_text.specs.Texts.{txn_text, handled_text, cause_text, decision_text, order_text};
 
 use itoa::Buffer;
 use tcs_terms::{Cause, Decision, Handled, OutOfMemory, TxId};
 
+#[tactic(auto, using(crate::proofs::Appending::begins_same))]
 pub(crate) fn put(out: &mut Vec<u8>, text: &[u8]) -> Result<(), OutOfMemory>
-    ensures { OnOk result (out.new.items ≡ out.old.items ++ text.now) }
+    ensures ok { OnOk result (out.new.items ≡ out.old.items ++ text.now) }
+    ensures err { OnErr result (Begins out.old.items out.new.items) }
 {
     Ok(out.extend_from_slice(text)?)
 }
 
 pub(crate) fn put_number(out: &mut Vec<u8>, number: u64) -> Result<(), OutOfMemory>
-    ensures { OnOk result (out.new.items ≡ out.old.items ++ decimal number) }
+    ensures ok { OnOk result (out.new.items ≡ out.old.items ++ decimal number) }
+    ensures err { OnErr result (Begins out.old.items out.new.items) }
 {
     let mut digits = Buffer::new();
     put(out, digits.format(number).as_bytes())
 }
 
 pub(crate) fn put_txn(out: &mut Vec<u8>, txn: TxId) -> Result<(), OutOfMemory>
-    ensures { OnOk result (out.new.items ≡ out.old.items ++ txn_text txn) }
+    ensures ok { OnOk result (out.new.items ≡ out.old.items ++ txn_text txn) }
+    ensures err { OnErr result (Begins out.old.items out.new.items) }
 {
     put_number(out, u64::from(txn.home))?;
     put(out, b".")?;
@@ -30,7 +35,8 @@ pub(crate) fn put_txn(out: &mut Vec<u8>, txn: TxId) -> Result<(), OutOfMemory>
 }
 
 pub(crate) fn put_handled(out: &mut Vec<u8>, handled: Handled) -> Result<(), OutOfMemory>
-    ensures { OnOk result (out.new.items ≡ out.old.items ++ handled_text handled) }
+    ensures ok { OnOk result (out.new.items ≡ out.old.items ++ handled_text handled) }
+    ensures err { OnErr result (Begins out.old.items out.new.items) }
 {
     match handled {
         Handled::Acted => put(out, b"acted"),
@@ -47,7 +53,8 @@ pub(crate) fn put_handled(out: &mut Vec<u8>, handled: Handled) -> Result<(), Out
 }
 
 fn put_cause(out: &mut Vec<u8>, cause: Cause) -> Result<(), OutOfMemory>
-    ensures { OnOk result (out.new.items ≡ out.old.items ++ cause_text cause) }
+    ensures ok { OnOk result (out.new.items ≡ out.old.items ++ cause_text cause) }
+    ensures err { OnErr result (Begins out.old.items out.new.items) }
 {
     match cause {
         Cause::Clash(txn) => {
@@ -59,7 +66,8 @@ fn put_cause(out: &mut Vec<u8>, cause: Cause) -> Result<(), OutOfMemory>
 }
 
 pub(crate) fn put_decision(out: &mut Vec<u8>, decision: Decision) -> Result<(), OutOfMemory>
-    ensures { OnOk result (out.new.items ≡ out.old.items ++ decision_text decision) }
+    ensures ok { OnOk result (out.new.items ≡ out.old.items ++ decision_text decision) }
+    ensures err { OnErr result (Begins out.old.items out.new.items) }
 {
     match decision {
         Decision::Commit => put(out, b"commit"),
@@ -74,14 +82,16 @@ pub(crate) fn put_decision(out: &mut Vec<u8>, decision: Decision) -> Result<(), 
 
 /// Lower-case hex.
 pub(crate) fn put_hex(out: &mut Vec<u8>, bytes: &[u8]) -> Result<(), OutOfMemory>
-    ensures { OnOk result (out.new.items ≡ out.old.items ++ encode_lower bytes.now) }
+    ensures ok { OnOk result (out.new.items ≡ out.old.items ++ encode_lower bytes.now) }
+    ensures err { OnErr result (Begins out.old.items out.new.items) }
 {
     let text = hex::encode(*out.allocator(), bytes)?;
     put(out, text.as_bytes())
 }
 
 pub(crate) fn put_value(out: &mut Vec<u8>, value: &[u8]) -> Result<(), OutOfMemory>
-    ensures { OnOk result (out.new.items ≡ out.old.items ++ value_text value.now) }
+    ensures ok { OnOk result (out.new.items ≡ out.old.items ++ value_text value.now) }
+    ensures err { OnErr result (Begins out.old.items out.new.items) }
 {
     match value {
         [] => put(out, b"-"),
@@ -89,18 +99,40 @@ pub(crate) fn put_value(out: &mut Vec<u8>, value: &[u8]) -> Result<(), OutOfMemo
     }
 }
 
+/// A space and a number.
+pub(crate) fn put_field(out: &mut Vec<u8>, number: u64) -> Result<(), OutOfMemory>
+    ensures ok { OnOk result (out.new.items ≡ out.old.items ++ (codes " " ++ decimal number)) }
+    ensures err { OnErr result (Begins out.old.items out.new.items) }
+{
+    put(out, b" ")?;
+    put_number(out, number)
+}
+
+/// A space and a transaction.
+fn put_next(out: &mut Vec<u8>, txn: TxId) -> Result<(), OutOfMemory>
+    ensures ok { OnOk result (out.new.items ≡ out.old.items ++ (codes " " ++ txn_text txn)) }
+    ensures err { OnErr result (Begins out.old.items out.new.items) }
+{
+    put(out, b" ")?;
+    put_txn(out, txn)
+}
+
 fn put_more(out: &mut Vec<u8>, order: &[TxId]) -> Result<(), OutOfMemory>
-    ensures { OnOk result (out.new.items ≡ out.old.items ++ flat_map (λ txn. codes " " ++ txn_text txn) order.now) }
+    ensures ok { OnOk result (out.new.items ≡ out.old.items ++ flat_map (λ txn. codes " " ++ txn_text txn) order.now) }
+    ensures err { OnErr result (Begins out.old.items out.new.items) }
 {
     for txn in order {
-        put(out, b" ")?;
-        put_txn(out, *txn)?;
+        match put_next(out, *txn) {
+            Ok(()) => {}
+            Err(OutOfMemory) => return Err(OutOfMemory),
+        }
     }
     Ok(())
 }
 
 pub(crate) fn put_order(out: &mut Vec<u8>, order: &[TxId]) -> Result<(), OutOfMemory>
-    ensures { OnOk result (out.new.items ≡ out.old.items ++ order_text order.now) }
+    ensures ok { OnOk result (out.new.items ≡ out.old.items ++ order_text order.now) }
+    ensures err { OnErr result (Begins out.old.items out.new.items) }
 {
     match order {
         [] => put(out, b"-"),
