@@ -1,6 +1,8 @@
 -- Frames behind the names of their kinds: what is read is spelled so, and what is spelled so is read.
-use Rattle.std.proofs.Common.{◌≡◌, ℕ, Bool, true, false, not, ◌&&◌, cond, List, ◌∷◌, ◌++◌, Option, Some, None, Result, Ok, Err, refl, sym, ap, subst, ◌∙◌, arith}
-use Rattle.std.specs.Prelude.{◌==◌, slice_index, codes}
+use Rattle.std.proofs.Common.{◌≡◌, ℕ, ◌<◌, Bool, true, false, not, ◌&&◌, cond, List, ◌∷◌, ◌++◌, Option, Some, None, Result, Ok, Err, refl, sym, ap, subst, ◌∙◌, arith}
+use Rattle.std.specs.Prelude.{◌==◌, nat_le, slice_index, codes}
+use Rattle.std.specs.List.{list_all}
+use Rattle.std.proofs.lemmas.Bool.Decides.{nat_tests}
 use Rattle.std.specs.Result.{result_ok}
 use Rattle.std.specs.Cmp.Lexicographic.{bytes_decides}
 use Rattle.hex.specs.Hex.{IsBytes, encode_lower}
@@ -17,7 +19,7 @@ use Rattle.trace_text.specs.Words.{◌>>=◌, cut, is_word, bytes_in}
 use Rattle.trace_text.specs.Readings.{frame_in}
 use Rattle.trace_text.proofs.Steps.{bind_some, some_is, kept}
 use Rattle.trace_text.proofs.Cuts.{lacks, cut_takes, cut_again}
-use Rattle.trace_text.proofs.PlainWords.{word_is}
+use Rattle.trace_text.proofs.PlainWords.{word_is, weaker}
 use Rattle.trace_text.proofs.HexWords.{bytes_takes, bytes_again}
 
 -- the text of a frame behind the name of its kind
@@ -58,12 +60,15 @@ frame_takes_text version text frame h =
 same_word : (word : List ℕ) → is_word word word ≡ true
 same_word word = (bytes_decides word word).1 refl
 
-one_of : (b : Bool) (x y : List ℕ) → lacks 32 x ≡ true → lacks 32 y ≡ true → lacks 32 (cond b x y) ≡ true
+abbrev are_letters : List ℕ → Bool
+are_letters text = list_all (λ b. nat_le 65 b) text
+
+one_of : (b : Bool) (x y : List ℕ) → are_letters x ≡ true → are_letters y ≡ true → are_letters (cond b x y) ≡ true
 one_of true x y p q = p
 one_of false x y p q = q
 
-kind_lacks : (kind : ℕ) → lacks 32 (kind_text kind) ≡ true
-kind_lacks kind =
+kind_letters : (kind : ℕ) → are_letters (kind_text kind) ≡ true
+kind_letters kind =
     one_of (kind == 1) (codes "PREPARE") _ refl (one_of (kind == 2) (codes "PREPARE_ACK") _ refl (one_of (kind == 3) (codes "ACCEPT") _ refl (
     one_of (kind == 4) (codes "ACCEPT_ACK") _ refl (one_of (kind == 5) (codes "DECISION") _ refl (one_of (kind == 6) (codes "PROBE") _ refl (
     one_of (kind == 7) (codes "PROBE_ACK") _ refl (one_of (kind == 8) (codes "NEW_CONFIG") _ refl (one_of (kind == 9) (codes "NEW_STATE") _ refl (
@@ -71,10 +76,13 @@ kind_lacks kind =
     one_of (kind == 13) (codes "CAS") _ refl (one_of (kind == 14) (codes "STORED") _ refl (one_of (kind == 15) (codes "OUTCOME") _ refl (
     one_of (kind == 16) (codes "REFUSED") _ refl (refl))))))))))))))))
 
+pub kind_lacks : (byte kind : ℕ) → byte < 65 → lacks byte (kind_text kind) ≡ true
+kind_lacks byte kind low = weaker (λ b. nat_le 65 b) (λ b. not (b == byte)) (λ b h. grind (arith, nat_tests)) (kind_text kind) (kind_letters kind)
+
 pub frame_reads_again : (version : ℕ) (frame : List ℕ) → IsFrame version frame → frame_in version (frame_text frame) ≡ Some frame
 unfolding frame_in
 frame_reads_again version frame h =
     let first : slice_index frame 0 ≡ kind_of h.message = ap (λ (f : List ℕ). slice_index f 0) h.spelled ∙ kind_is h.message in
     let read : read_frame frame ≡ Ok h.message = ap read_frame h.spelled ∙ frame_again h.message h.in_range in
     let named : is_word (kind_text (kind_of h.message)) (kind_text (slice_index frame 0)) ≡ true = rw first (same_word (kind_text (kind_of h.message))) in
-    rw (cut_again 32 (kind_text (slice_index frame 0)) (encode_lower frame) (kind_lacks (slice_index frame 0)), bytes_again frame h.are_bytes, read, named, h.fits) refl
+    rw (cut_again 32 (kind_text (slice_index frame 0)) (encode_lower frame) (kind_lacks 32 (slice_index frame 0) (omega arith)), bytes_again frame h.are_bytes, read, named, h.fits) refl

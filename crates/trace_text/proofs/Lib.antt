@@ -13,3 +13,4 @@ pub mod OrderWords
 pub mod LineWords
 pub mod Answering
 pub mod TraceLaws
+pub mod Feeds

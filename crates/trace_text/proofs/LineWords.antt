@@ -212,7 +212,7 @@ head_again s version rule shards h =
     rw (
       h.0,
       cut_again 32 (decimal version) (rule_text rule ++ 32 ∷ decimal shards) (decimal_lacks 32 version (omega arith) small_version),
-      cut_again 32 (rule_text rule) (decimal shards) (rule_lacks rule),
+      cut_again 32 (rule_text rule) (decimal shards) (rule_lacks 32 rule (omega arith)),
       within_again 1 2 version h.1 small_version,
       rule_again rule,
       within_again 1 MAX_SHARDS shards h.2 small_shards,

@@ -151,7 +151,7 @@ note_again version shards (notes.Begin txn p) few h = record {
   text = txn_text txn ++ 32 ∷ payload_text p;
   parts = begin_parts txn p;
   solid = refl;
-  again = rw (cut_again 32 (txn_text txn) (payload_text p) (txn_lacks txn h.0), txn_again txn h.0, payload_again version p h.1 h.2) refl;
+  again = rw (cut_again 32 (txn_text txn) (payload_text p) (txn_lacks 32 txn (omega arith) h.0), txn_again txn h.0, payload_again version p h.1 h.2) refl;
   only_a_note = λ s. refl;
 }
 note_again version shards (notes.Take txn) few h = record {
@@ -168,7 +168,7 @@ note_again version shards (notes.ReadValue name seen value) few h = record {
   parts = read_parts name seen value;
   solid = refl;
   again = rw (
-    cut_again 32 name (decimal seen ++ 32 ∷ value_text value) (name_lacks name h.0),
+    cut_again 32 name (decimal seen ++ 32 ∷ value_text value) (name_lacks 32 name (omega arith) h.0),
     cut_again 32 (decimal seen) (value_text value) (decimal_lacks 32 seen (omega arith) h.1),
     name_again name h.0,
     number_in_again seen h.1,
@@ -181,6 +181,6 @@ note_again version shards (notes.Decide txn d) few h = record {
   text = txn_text txn ++ 32 ∷ decision_text d;
   parts = decide_parts txn d;
   solid = refl;
-  again = rw (cut_again 32 (txn_text txn) (decision_text d) (txn_lacks txn h.0), txn_again txn h.0, decision_again shards d few h.1) refl;
+  again = rw (cut_again 32 (txn_text txn) (decision_text d) (txn_lacks 32 txn (omega arith) h.0), txn_again txn h.0, decision_again shards d few h.1) refl;
   only_a_note = λ s. refl;
 }

@@ -41,9 +41,9 @@ joined t [] = sym (append-nil (txn_text t))
 joined t (u ∷ us) = ap (λ (v : List ℕ). txn_text t ++ 32 ∷ v) (joined u us)
 
 order_words : (t : TxId) (ts : List TxId) → list_all is_txn (t ∷ ts) ≡ true → words_of (order_text (t ∷ ts)) ≡ map txn_text (t ∷ ts)
-order_words t [] h = ap words_of (append-nil (txn_text t)) ∙ words_of_one (txn_text t) (txn_lacks t (left_of (is_txn t) true h))
+order_words t [] h = ap words_of (append-nil (txn_text t)) ∙ words_of_one (txn_text t) (txn_lacks 32 t (omega arith) (left_of (is_txn t) true h))
 order_words t (u ∷ us) h =
-    words_of_two (txn_text t) (order_text (u ∷ us)) (txn_lacks t (left_of (is_txn t) (list_all is_txn (u ∷ us)) h))
+    words_of_two (txn_text t) (order_text (u ∷ us)) (txn_lacks 32 t (omega arith) (left_of (is_txn t) (list_all is_txn (u ∷ us)) h))
     ∙ ap (λ (vs : List (List ℕ)). txn_text t ∷ vs) (order_words u us (right_of (is_txn t) (list_all is_txn (u ∷ us)) h))
 
 -- ---- orders

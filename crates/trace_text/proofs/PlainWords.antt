@@ -39,8 +39,11 @@ weaker f g step (b ∷ bs) h = both (g b) (list_all g bs) (step b (left_of (f b)
 pub decimal_lacks : (byte n : ℕ) → byte < 48 → n < 2 ^ 64 → lacks byte (decimal n) ≡ true
 decimal_lacks byte n low small = weaker is_ascii_digit (λ b. not (b == byte)) (λ b h. grind (arith, nat_tests)) (decimal n) (digits_decimal numerals n small)
 
-pub name_lacks : (name : List ℕ) → IsName name → lacks 32 name ≡ true
-name_lacks name h = weaker is_name_byte (λ b. not (b == 32)) (λ b h. grind (arith, nat_tests)) name h.alphabet
+name_bytes_lack : (byte : ℕ) (text : List ℕ) → byte < 48 → list_all is_name_byte text ≡ true → lacks byte text ≡ true
+name_bytes_lack byte text low h = weaker is_name_byte (λ b. not (b == byte)) (λ b h. grind (arith, nat_tests)) text h
+
+pub name_lacks : (byte : ℕ) (name : List ℕ) → byte < 48 → IsName name → lacks byte name ≡ true
+name_lacks byte name low h = name_bytes_lack byte name low h.alphabet
 
 -- ---- numbers
 
@@ -126,12 +129,14 @@ txn_again t h =
     let seq_small = small_within 1 MAX_SEQUENCE t.seq seq (omega arith) in
     rw (txn_parts t, cut_again 46 (decimal t.home) (decimal t.seq) (decimal_lacks 46 t.home (omega arith) home_small), within_again 1 MAX_NODES t.home home home_small, within_again 1 MAX_SEQUENCE t.seq seq seq_small) refl
 
-pub txn_lacks : (t : TxId) → is_txn t ≡ true → lacks 32 (txn_text t) ≡ true
-txn_lacks t h =
+pub txn_lacks : (byte : ℕ) (t : TxId) → byte < 46 → is_txn t ≡ true → lacks byte (txn_text t) ≡ true
+txn_lacks byte t low h =
     let home = small_within 1 MAX_NODES t.home (left_of (is_node t.home) (nat_le 1 t.seq && nat_le t.seq MAX_SEQUENCE) h) (omega arith) in
     let seq = small_within 1 MAX_SEQUENCE t.seq (right_of (is_node t.home) (nat_le 1 t.seq && nat_le t.seq MAX_SEQUENCE) h) (omega arith) in
-    ap (lacks 32) (txn_parts t) ∙ list_all-append (λ b. not (b == 32)) (decimal t.home) (46 ∷ decimal t.seq)
-    ∙ both (lacks 32 (decimal t.home)) (lacks 32 (decimal t.seq)) (decimal_lacks 32 t.home (omega arith) home) (decimal_lacks 32 t.seq (omega arith) seq)
+    let dot : not (46 == byte) ≡ true = grind (arith, nat_tests) in
+    ap (lacks byte) (txn_parts t) ∙ list_all-append (λ b. not (b == byte)) (decimal t.home) (46 ∷ decimal t.seq)
+    ∙ both (lacks byte (decimal t.home)) (not (46 == byte) && lacks byte (decimal t.seq)) (decimal_lacks byte t.home (omega arith) home)
+    (both (not (46 == byte)) (lacks byte (decimal t.seq)) dot (decimal_lacks byte t.seq (omega arith) seq))
 
 -- ---- rules
 
@@ -151,10 +156,10 @@ rule_again Serial = refl
 rule_again Snapshot = refl
 rule_again Commute = refl
 
-pub rule_lacks : (r : Rule) → lacks 32 (rule_text r) ≡ true
-rule_lacks Serial = refl
-rule_lacks Snapshot = refl
-rule_lacks Commute = refl
+pub rule_lacks : (byte : ℕ) (r : Rule) → byte < 48 → lacks byte (rule_text r) ≡ true
+rule_lacks byte Serial low = name_bytes_lack byte (codes "serial") low refl
+rule_lacks byte Snapshot low = name_bytes_lack byte (codes "snapshot") low refl
+rule_lacks byte Commute low = name_bytes_lack byte (codes "commute") low refl
 
 -- ---- names
 

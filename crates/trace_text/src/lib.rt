@@ -17,7 +17,7 @@ mod versions;
 mod words;
 
 pub use items::{TraceFault, TraceItem, TxList};
-pub use laws::{happenings_are_printed, one_reading, traces_are_read};
+pub use laws::{happenings_are_printed, no_feed_inside, one_reading, traces_are_read};
 pub use printers::{
     print_happening, print_head, print_kind, print_message, print_note, print_result, print_tail,
 };
