@@ -1,0 +1,16 @@
+pub mod Appending
+pub mod Steps
+pub mod Cuts
+pub mod WordLists
+pub mod ValueWords
+pub mod HexWords
+pub mod PlainWords
+pub mod ResultWords
+pub mod DecisionWords
+pub mod NoteWords
+pub mod FrameWords
+pub mod OrderWords
+pub mod LineWords
+pub mod Answering
+pub mod TraceLaws
+pub mod Feeds

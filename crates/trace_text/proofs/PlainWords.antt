@@ -1,0 +1,177 @@
+-- Numbers, transactions, rules and names: what is read is spelled so, and what is spelled so is read.
+use Rattle.std.proofs.Common.{◌≡◌, ◌⊎◌, inl, inr, ℕ, ◌+◌, ◌^◌, ◌<◌, ◌≤◌, Bool, true, false, not, ◌&&◌, ◌||◌, cond, List, [], ◌∷◌, ◌++◌, length, Option, Some, None, Result, Ok, Err, refl, sym, ap, subst, ◌∙◌, append_assoc, arith}
+use Rattle.std.specs.Prelude.{◌==◌, nat_le, codes, decimal, is_none}
+use Rattle.std.specs.List.{list_all}
+use Rattle.std.specs.Char.{is_ascii_digit}
+use Rattle.std.specs.Cmp.Lexicographic.{bytes_decides}
+use Rattle.std.proofs.lemmas.Bool.{eqb-true, eq-eqb}
+use Rattle.std.proofs.lemmas.Bool.Decides.{nat_tests}
+use Rattle.std.proofs.lemmas.Fmt.{digits_decimal}
+use Rattle.std.proofs.lemmas.List.Folds.{list_all-append}
+use Rattle.tcs_terms.specs.declared.limits.TheConstants.{MAX_NODES, MAX_SEQUENCE}
+use Rattle.tcs_terms.specs.declared.ids.TxId.{TxId}
+use Rattle.tcs_terms.specs.declared.setups.Rule.{Rule}
+use Rattle.tcs_terms.specs.declared.setups.Rule.TheVariants.{Serial, Snapshot, Commute}
+use Rattle.tcs_terms.specs.declared.words.Reason.TheVariants as reasons
+use Rattle.tcs_terms.specs.Objects.{is_name_byte, IsName}
+use Rattle.tcs_terms.specs.ObjectFaults.{name_fault}
+use Rattle.tcs_terms.specs.Places.{is_node}
+use Rattle.tcs_terms.specs.Messages.{is_txn}
+use Rattle.tcs_terms.specs.PayloadWords.{Misfit, misfit, is_printable, number_in, number_or, number_word}
+use Rattle.tcs_terms.proofs.BoolLaws.{both, left_of, right_of}
+use Rattle.tcs_terms.proofs.NameLaws.{is_name_without_fault, no_fault_of_a_name}
+use Rattle.tcs_terms.proofs.NumberLaws.{numerals}
+use Rattle.tcs_terms.proofs.WordReadings.{ok_is, number_takes, number_again}
+use Rattle.trace_text.specs.Texts.{rule_text, txn_text}
+use Rattle.trace_text.specs.Words.{◌>>=◌, cut, is_word, number_within, next_number, txn_in, rule_in, name_in}
+use Rattle.trace_text.proofs.Steps.{bind_some, some_is, kept, either}
+use Rattle.trace_text.proofs.Cuts.{lacks, cut_takes, cut_again}
+
+pub word_is : (word text : List ℕ) → is_word word text ≡ true → text ≡ word
+word_is word text h = (bytes_decides text word).0 h
+
+-- ---- bytes that a word lacks
+
+pub weaker : (f g : ℕ → Bool) → ((b : ℕ) → f b ≡ true → g b ≡ true) → (w : List ℕ) → list_all f w ≡ true → list_all g w ≡ true
+weaker f g step [] h = refl
+weaker f g step (b ∷ bs) h = both (g b) (list_all g bs) (step b (left_of (f b) (list_all f bs) h)) (weaker f g step bs (right_of (f b) (list_all f bs) h))
+
+pub decimal_lacks : (byte n : ℕ) → byte < 48 → n < 2 ^ 64 → lacks byte (decimal n) ≡ true
+decimal_lacks byte n low small = weaker is_ascii_digit (λ b. not (b == byte)) (λ b h. grind (arith, nat_tests)) (decimal n) (digits_decimal numerals n small)
+
+name_bytes_lack : (byte : ℕ) (text : List ℕ) → byte < 48 → list_all is_name_byte text ≡ true → lacks byte text ≡ true
+name_bytes_lack byte text low h = weaker is_name_byte (λ b. not (b == byte)) (λ b h. grind (arith, nat_tests)) text h
+
+pub name_lacks : (byte : ℕ) (name : List ℕ) → byte < 48 → IsName name → lacks byte name ≡ true
+name_lacks byte name low h = name_bytes_lack byte name low h.alphabet
+
+-- ---- numbers
+
+pub number_in_takes : (word : List ℕ) (n : ℕ) → number_in word ≡ Some n → (word ≡ decimal n) × (n < 2 ^ 64)
+unfolding number_word
+number_in_takes word n h =
+    let t = number_takes (word ∷ []) (n, []) (ap (λ (o : Option ℕ). number_or o word []) h) in
+    (first_of word (decimal n) t.0, t.1) where
+      first_of : (v w : List ℕ) → ◌≡◌ {A = List (List ℕ)} (v ∷ []) (w ∷ []) → v ≡ w
+      first_of v w e = cc
+
+pub number_in_again : (n : ℕ) → n < 2 ^ 64 → number_in (decimal n) ≡ Some n
+unfolding number_word
+number_in_again n small = go (number_in (decimal n)) (number_again n [] small) where
+  refused : (b : Bool) → cond b (misfit {A = ℕ × List (List ℕ)} reasons.Word 1) (misfit reasons.Number 1) ≡ Ok (n, []) → ◌≡◌ {A = Option ℕ} None (Some n)
+  refused true e = absurd cc
+  refused false e = absurd cc
+
+  go : (o : Option ℕ) → number_or o (decimal n) [] ≡ Ok (n, []) → o ≡ Some n
+  go (Some k) e = ap (λ (x : ℕ × List (List ℕ)). Some x.0) (ok_is (k, []) (n, []) e)
+  go None e = refused ((length (decimal n) == 0) || not (list_all is_printable (decimal n))) e
+
+-- a number that was read, in its range
+pub record Within (low high : ℕ) (text : List ℕ) (n : ℕ) : Type 0 where
+  pub spelled : text ≡ decimal n
+  pub fits : (nat_le low n && nat_le n high) ≡ true
+  pub small : n < 2 ^ 64
+
+pub within_takes : (low high : ℕ) (text : List ℕ) (n : ℕ) → number_within low high text ≡ Some n → Within low high text n
+unfolding number_within
+within_takes low high text n h =
+    let a = bind_some (number_in text) _ n h in
+    let t = number_in_takes text a.0 a.1 in
+    let k = kept (nat_le low a.0 && nat_le a.0 high) a.0 n a.2 in
+    subst (Within low high text) k.1 (record { spelled = t.0; fits = k.0; small = t.1 })
+
+pub within_again : (low high n : ℕ) → (nat_le low n && nat_le n high) ≡ true → n < 2 ^ 64 → number_within low high (decimal n) ≡ Some n
+unfolding number_within
+within_again low high n fits small = rw (number_in_again n small, fits) refl
+
+pub small_within : (low high n : ℕ) → (nat_le low n && nat_le n high) ≡ true → high < 2 ^ 64 → n < 2 ^ 64
+small_within low high n fits below =
+    let top = right_of (nat_le low n) (nat_le n high) fits in
+    let le : n ≤ high = grind (arith, nat_tests) in
+    omega arith
+
+pub next_takes : (count : ℕ) (text : List ℕ) (n : ℕ) → next_number count text ≡ Some n → (text ≡ decimal n) × (n ≡ count + 1) × (n < 2 ^ 64)
+unfolding next_number
+next_takes count text n h =
+    let a = bind_some (number_in text) _ n h in
+    let t = number_in_takes text a.0 a.1 in
+    let k = kept (a.0 == count + 1) a.0 n a.2 in
+    subst (λ (m : ℕ). (text ≡ decimal m) × (m ≡ count + 1) × (m < 2 ^ 64)) k.1 (t.0, eqb-true a.0 (count + 1) k.0, t.1)
+
+pub next_again : (count n : ℕ) → n ≡ count + 1 → n < 2 ^ 64 → next_number count (decimal n) ≡ Some n
+unfolding next_number
+next_again count n e small = rw (number_in_again n small, eq-eqb n (count + 1) e) refl
+
+-- ---- transactions
+
+pub txn_parts : (t : TxId) → txn_text t ≡ decimal t.home ++ 46 ∷ decimal t.seq
+txn_parts t = simp append_assoc
+
+pub txn_takes : (text : List ℕ) (t : TxId) → txn_in text ≡ Some t → (text ≡ txn_text t) × (is_txn t ≡ true)
+unfolding txn_in
+txn_takes text t h =
+    let parts = bind_some (cut 46 text) _ t h in
+    let home = bind_some (number_within 1 MAX_NODES parts.0.0) _ t parts.2 in
+    let seq = bind_some (number_within 1 MAX_SEQUENCE parts.0.1) _ t home.2 in
+    let c = cut_takes 46 text parts.0 parts.1 in
+    let x = within_takes 1 MAX_NODES parts.0.0 home.0 home.1 in
+    let y = within_takes 1 MAX_SEQUENCE parts.0.1 seq.0 seq.1 in
+    let made : TxId = record { home = home.0; seq = seq.0 } in
+    subst (λ (u : TxId). (text ≡ txn_text u) × (is_txn u ≡ true)) (some_is made t seq.2)
+    (c.whole ∙ ap (λ (v : List ℕ). v ++ 46 ∷ parts.0.1) x.spelled ∙ ap (λ (v : List ℕ). decimal home.0 ++ 46 ∷ v) y.spelled ∙ sym (txn_parts made), both (is_node home.0) (nat_le 1 seq.0 && nat_le seq.0 MAX_SEQUENCE) x.fits y.fits)
+
+pub txn_again : (t : TxId) → is_txn t ≡ true → txn_in (txn_text t) ≡ Some t
+unfolding txn_in
+txn_again t h =
+    let home = left_of (is_node t.home) (nat_le 1 t.seq && nat_le t.seq MAX_SEQUENCE) h in
+    let seq = right_of (is_node t.home) (nat_le 1 t.seq && nat_le t.seq MAX_SEQUENCE) h in
+    let home_small = small_within 1 MAX_NODES t.home home (omega arith) in
+    let seq_small = small_within 1 MAX_SEQUENCE t.seq seq (omega arith) in
+    rw (txn_parts t, cut_again 46 (decimal t.home) (decimal t.seq) (decimal_lacks 46 t.home (omega arith) home_small), within_again 1 MAX_NODES t.home home home_small, within_again 1 MAX_SEQUENCE t.seq seq seq_small) refl
+
+pub txn_lacks : (byte : ℕ) (t : TxId) → byte < 46 → is_txn t ≡ true → lacks byte (txn_text t) ≡ true
+txn_lacks byte t low h =
+    let home = small_within 1 MAX_NODES t.home (left_of (is_node t.home) (nat_le 1 t.seq && nat_le t.seq MAX_SEQUENCE) h) (omega arith) in
+    let seq = small_within 1 MAX_SEQUENCE t.seq (right_of (is_node t.home) (nat_le 1 t.seq && nat_le t.seq MAX_SEQUENCE) h) (omega arith) in
+    let dot : not (46 == byte) ≡ true = grind (arith, nat_tests) in
+    ap (lacks byte) (txn_parts t) ∙ list_all-append (λ b. not (b == byte)) (decimal t.home) (46 ∷ decimal t.seq)
+    ∙ both (lacks byte (decimal t.home)) (not (46 == byte) && lacks byte (decimal t.seq)) (decimal_lacks byte t.home (omega arith) home)
+    (both (not (46 == byte)) (lacks byte (decimal t.seq)) dot (decimal_lacks byte t.seq (omega arith) seq))
+
+-- ---- rules
+
+pub rule_takes : (text : List ℕ) (r : Rule) → rule_in text ≡ Some r → text ≡ rule_text r
+unfolding rule_in
+rule_takes text r h = elim (either (is_word (codes "serial") text) (Some Serial) _ r h) [
+  | inl a ↦ word_is (codes "serial") text a.0 ∙ ap rule_text (some_is Serial r a.1)
+  | inr b ↦ elim (either (is_word (codes "snapshot") text) (Some Snapshot) _ r b.1) [
+    | inl a ↦ word_is (codes "snapshot") text a.0 ∙ ap rule_text (some_is Snapshot r a.1)
+    | inr d ↦ (let k = kept (is_word (codes "commute") text) Commute r d.1 in word_is (codes "commute") text k.0 ∙ ap rule_text k.1)
+  ]
+]
+
+pub rule_again : (r : Rule) → rule_in (rule_text r) ≡ Some r
+unfolding rule_in
+rule_again Serial = refl
+rule_again Snapshot = refl
+rule_again Commute = refl
+
+pub rule_lacks : (byte : ℕ) (r : Rule) → byte < 48 → lacks byte (rule_text r) ≡ true
+rule_lacks byte Serial low = name_bytes_lack byte (codes "serial") low refl
+rule_lacks byte Snapshot low = name_bytes_lack byte (codes "snapshot") low refl
+rule_lacks byte Commute low = name_bytes_lack byte (codes "commute") low refl
+
+-- ---- names
+
+pub name_takes : (text name : List ℕ) → name_in text ≡ Some name → (text ≡ name) × IsName name
+unfolding name_in
+name_takes text name h =
+    let k = kept (is_none (name_fault text)) text name h in
+    subst (λ (n : List ℕ). (text ≡ n) × IsName n) k.1 (refl, is_name_without_fault text (none_is (name_fault text) k.0)) where
+      none_is : (o : Option ℕ) → is_none o ≡ true → o ≡ None
+      none_is None e = refl
+      none_is (Some n) e = absurd cc
+
+pub name_again : (name : List ℕ) → IsName name → name_in name ≡ Some name
+unfolding name_in
+name_again name h = rw (no_fault_of_a_name name h) refl

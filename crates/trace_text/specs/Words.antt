@@ -1,0 +1,77 @@
+-- How the words of a line are read.
+use Rattle.std.specs.Prelude.{ℕ, ◌+◌, Bool, ◌&&◌, ◌==◌, nat_le, if◌then◌else◌, is_none, List, [], ◌∷◌, take, drop, position, codes, Option, Some, None}
+use Rattle.std.specs.List.{list_all}
+use Rattle.std.specs.Result.{result_ok}
+use Rattle.hex.specs.Hex.{decode_of}
+use Rattle.tcs_terms.specs.declared.limits.TheConstants.{MAX_NODES, MAX_SEQUENCE}
+use Rattle.tcs_terms.specs.declared.ids.TxId.{TxId}
+use Rattle.tcs_terms.specs.declared.setups.Rule.{Rule}
+use Rattle.tcs_terms.specs.declared.setups.Rule.TheVariants.{Serial, Snapshot, Commute}
+use Rattle.tcs_terms.specs.ObjectFaults.{name_fault}
+use Rattle.tcs_terms.specs.Payloads.{same_name}
+use Rattle.tcs_terms.specs.PayloadWords.{number_in, is_lower_digit}
+
+-- the next step of reading, if this one gave something
+infixl 10 ◌>>=◌
+abbrev pub ◌>>=◌ : {A B : Type 0} → Option A → (A → Option B) → Option B
+(Some x) >>= f = f x
+None >>= f = None
+
+abbrev pub halves : List ℕ → Option ℕ → Option (List ℕ × List ℕ)
+halves text None = None
+halves text (Some place) = Some (take place text, drop (place + 1) text)
+
+-- what stands before and after the first of these bytes
+unfoldable pub cut : ℕ → List ℕ → Option (List ℕ × List ℕ)
+cut byte text = halves text (position (λ b. b == byte) text)
+
+-- the first word of a text that has at least two, and what follows its space
+abbrev pub first_word : List ℕ → Option (List ℕ × List ℕ)
+first_word text = cut 32 text
+
+-- whether a word is this one
+abbrev pub is_word : List ℕ → List ℕ → Bool
+is_word word text = same_name text word
+
+-- a number in this range
+unfoldable pub number_within : ℕ → ℕ → List ℕ → Option ℕ
+number_within low high text = do
+  n ← number_in text
+  if nat_le low n && nat_le n high then Some n else None
+
+-- the number after this one
+unfoldable pub next_number : ℕ → List ℕ → Option ℕ
+next_number count text = do
+  n ← number_in text
+  if n == count + 1 then Some n else None
+
+-- a transaction: its home, a dot, its number
+unfoldable pub txn_in : List ℕ → Option TxId
+txn_in text = do
+  parts ← cut 46 text
+  home ← number_within 1 MAX_NODES parts.0
+  seq ← number_within 1 MAX_SEQUENCE parts.1
+  Some (record { home = home; seq = seq })
+
+unfoldable pub rule_in : List ℕ → Option Rule
+rule_in text =
+    if is_word (codes "serial") text then Some Serial
+    else if is_word (codes "snapshot") text then Some Snapshot
+    else if is_word (codes "commute") text then Some Commute
+    else None
+
+-- a name
+unfoldable pub name_in : List ℕ → Option (List ℕ)
+name_in text = if is_none (name_fault text) then Some text else None
+
+-- bytes in hex, in lower case
+unfoldable pub bytes_in : List ℕ → Option (List ℕ)
+bytes_in text = if list_all is_lower_digit text then result_ok (decode_of text) else None
+
+-- each of the words as a transaction
+unfoldable pub each_txn : List (List ℕ) → Option (List TxId)
+each_txn [] = Some []
+each_txn (w ∷ ws) = do
+  t ← txn_in w
+  ts ← each_txn ws
+  Some (t ∷ ts)

@@ -1,0 +1,144 @@
+//! The parts of a trace's text, each appended to a buffer.
+ghost use Rattle.std.specs.Prelude.{◌≡◌, ◌++◌, codes, decimal, OnOk, OnErr};
+ghost use Rattle.std.specs.List.{flat_map};
+ghost use Rattle.hex.specs.Hex.{encode_lower};
+ghost use Rattle.tcs_terms.specs.PayloadText.{value_text};
+ghost use Rattle.trace_text.specs.Appends.{Begins};
+ghost use Rattle.trace_text.specs.Texts.{txn_text, handled_text, cause_text, decision_text, order_text};
+
+use itoa::Buffer;
+use tcs_terms::{Cause, Decision, Handled, OutOfMemory, TxId};
+
+#[tactic(auto, using(crate::proofs::Appending::begins_same))]
+pub(crate) fn put(out: &mut Vec<u8>, text: &[u8]) -> Result<(), OutOfMemory>
+    ensures ok { OnOk result (out.new.items ≡ out.old.items ++ text.now) }
+    ensures err { OnErr result (Begins out.old.items out.new.items) }
+{
+    Ok(out.extend_from_slice(text)?)
+}
+
+pub(crate) fn put_number(out: &mut Vec<u8>, number: u64) -> Result<(), OutOfMemory>
+    ensures ok { OnOk result (out.new.items ≡ out.old.items ++ decimal number) }
+    ensures err { OnErr result (Begins out.old.items out.new.items) }
+{
+    let mut digits = Buffer::new();
+    put(out, digits.format(number).as_bytes())
+}
+
+pub(crate) fn put_txn(out: &mut Vec<u8>, txn: TxId) -> Result<(), OutOfMemory>
+    ensures ok { OnOk result (out.new.items ≡ out.old.items ++ txn_text txn) }
+    ensures err { OnErr result (Begins out.old.items out.new.items) }
+{
+    put_number(out, u64::from(txn.home))?;
+    put(out, b".")?;
+    put_number(out, u64::from(txn.seq))
+}
+
+pub(crate) fn put_handled(out: &mut Vec<u8>, handled: Handled) -> Result<(), OutOfMemory>
+    ensures ok { OnOk result (out.new.items ≡ out.old.items ++ handled_text handled) }
+    ensures err { OnErr result (Begins out.old.items out.new.items) }
+{
+    match handled {
+        Handled::Acted => put(out, b"acted"),
+        Handled::Stale(mark) => {
+            put(out, b"stale ")?;
+            put_number(out, u64::from(mark))
+        }
+        Handled::Held(mark) => {
+            put(out, b"held ")?;
+            put_number(out, u64::from(mark))
+        }
+        Handled::Full => put(out, b"full"),
+    }
+}
+
+fn put_cause(out: &mut Vec<u8>, cause: Cause) -> Result<(), OutOfMemory>
+    ensures ok { OnOk result (out.new.items ≡ out.old.items ++ cause_text cause) }
+    ensures err { OnErr result (Begins out.old.items out.new.items) }
+{
+    match cause {
+        Cause::Clash(txn) => {
+            put(out, b"clash ")?;
+            put_txn(out, txn)
+        }
+        Cause::Lost => put(out, b"lost"),
+    }
+}
+
+pub(crate) fn put_decision(out: &mut Vec<u8>, decision: Decision) -> Result<(), OutOfMemory>
+    ensures ok { OnOk result (out.new.items ≡ out.old.items ++ decision_text decision) }
+    ensures err { OnErr result (Begins out.old.items out.new.items) }
+{
+    match decision {
+        Decision::Commit => put(out, b"commit"),
+        Decision::Abort { shard, cause } => {
+            put(out, b"abort ")?;
+            put_number(out, u64::from(shard))?;
+            put(out, b" ")?;
+            put_cause(out, cause)
+        }
+    }
+}
+
+/// Lower-case hex.
+pub(crate) fn put_hex(out: &mut Vec<u8>, bytes: &[u8]) -> Result<(), OutOfMemory>
+    ensures ok { OnOk result (out.new.items ≡ out.old.items ++ encode_lower bytes.now) }
+    ensures err { OnErr result (Begins out.old.items out.new.items) }
+{
+    let text = hex::encode(*out.allocator(), bytes)?;
+    put(out, text.as_bytes())
+}
+
+pub(crate) fn put_value(out: &mut Vec<u8>, value: &[u8]) -> Result<(), OutOfMemory>
+    ensures ok { OnOk result (out.new.items ≡ out.old.items ++ value_text value.now) }
+    ensures err { OnErr result (Begins out.old.items out.new.items) }
+{
+    match value {
+        [] => put(out, b"-"),
+        [_, ..] => put_hex(out, value),
+    }
+}
+
+/// A space and a number.
+pub(crate) fn put_field(out: &mut Vec<u8>, number: u64) -> Result<(), OutOfMemory>
+    ensures ok { OnOk result (out.new.items ≡ out.old.items ++ (codes " " ++ decimal number)) }
+    ensures err { OnErr result (Begins out.old.items out.new.items) }
+{
+    put(out, b" ")?;
+    put_number(out, number)
+}
+
+/// A space and a transaction.
+fn put_next(out: &mut Vec<u8>, txn: TxId) -> Result<(), OutOfMemory>
+    ensures ok { OnOk result (out.new.items ≡ out.old.items ++ (codes " " ++ txn_text txn)) }
+    ensures err { OnErr result (Begins out.old.items out.new.items) }
+{
+    put(out, b" ")?;
+    put_txn(out, txn)
+}
+
+fn put_more(out: &mut Vec<u8>, order: &[TxId]) -> Result<(), OutOfMemory>
+    ensures ok { OnOk result (out.new.items ≡ out.old.items ++ flat_map (λ txn. codes " " ++ txn_text txn) order.now) }
+    ensures err { OnErr result (Begins out.old.items out.new.items) }
+{
+    for txn in order {
+        match put_next(out, *txn) {
+            Ok(()) => {}
+            Err(OutOfMemory) => return Err(OutOfMemory),
+        }
+    }
+    Ok(())
+}
+
+pub(crate) fn put_order(out: &mut Vec<u8>, order: &[TxId]) -> Result<(), OutOfMemory>
+    ensures ok { OnOk result (out.new.items ≡ out.old.items ++ order_text order.now) }
+    ensures err { OnErr result (Begins out.old.items out.new.items) }
+{
+    match order {
+        [] => put(out, b"-"),
+        [first, others @ ..] => {
+            put_txn(out, *first)?;
+            put_more(out, others)
+        }
+    }
+}

@@ -1,0 +1,328 @@
+//! Reads a trace line by line.
+ghost use Rattle.std.specs.Prelude.{◌≡◌, ℕ, List, IfOk, OnErr};
+ghost use Rattle.std.specs.Option.{option_map};
+ghost use Rattle.trace_text.specs.Lines.{Line, line_text, IsStanding, MayStand, at_start, is_start, is_within, is_event, has_event, is_ordered};
+ghost use Rattle.trace_text.specs.Readings.{note_of, head_of, event_of, ends_of, message_of, order_of, end_of, line_of, line_in, Takes, Answers, Accepts, IsMemoryOr};
+
+use crate::frames::frame_in;
+use crate::items::{TraceFault, TraceItem, TxList};
+use crate::notes::note_in;
+use crate::results::result_in;
+use crate::words::{cut, next_number, number_in, number_within, order_in, rule_in};
+use std::alloc::Global;
+use std::marker::Model;
+use tcs_terms::OutOfMemory;
+use tcs_terms::limits::{MAX_NODES, MAX_SHARDS};
+
+/// Behind which lines a reader stands.
+#[derive(Clone, Copy, Debug, PartialEq, Eq)]
+pub enum Stage {
+    /// Behind no line.
+    Start,
+    /// Behind the first line.
+    Begun,
+    /// Behind the line of an event, or one of its notes.
+    Event,
+    /// Behind a message.
+    Messages,
+    /// Behind the order.
+    Ordered,
+    /// Behind the last line.
+    Ended,
+}
+
+impl Stage {
+    /// Behind no line.
+    fn is_start(self) -> bool
+        ensures { result ≡ is_start self }
+    {
+        match self {
+            Stage::Start => true,
+            Stage::Begun => false,
+            Stage::Event => false,
+            Stage::Messages => false,
+            Stage::Ordered => false,
+            Stage::Ended => false,
+        }
+    }
+
+    /// Behind the first line, and before the order.
+    fn is_within(self) -> bool
+        ensures { result ≡ is_within self }
+    {
+        match self {
+            Stage::Start => false,
+            Stage::Begun => true,
+            Stage::Event => true,
+            Stage::Messages => true,
+            Stage::Ordered => false,
+            Stage::Ended => false,
+        }
+    }
+
+    /// Behind the line of an event, or one of its notes.
+    fn is_event(self) -> bool
+        ensures { result ≡ is_event self }
+    {
+        match self {
+            Stage::Start => false,
+            Stage::Begun => false,
+            Stage::Event => true,
+            Stage::Messages => false,
+            Stage::Ordered => false,
+            Stage::Ended => false,
+        }
+    }
+
+    /// Behind the line of an event, its notes or its messages.
+    fn has_event(self) -> bool
+        ensures { result ≡ has_event self }
+    {
+        match self {
+            Stage::Start => false,
+            Stage::Begun => false,
+            Stage::Event => true,
+            Stage::Messages => true,
+            Stage::Ordered => false,
+            Stage::Ended => false,
+        }
+    }
+
+    /// Behind the order.
+    fn is_ordered(self) -> bool
+        ensures { result ≡ is_ordered self }
+    {
+        match self {
+            Stage::Start => false,
+            Stage::Begun => false,
+            Stage::Event => false,
+            Stage::Messages => false,
+            Stage::Ordered => true,
+            Stage::Ended => false,
+        }
+    }
+}
+
+/// Reads a trace line by line. Seen as where it stands.
+#[derive(Debug, Drop)]
+pub struct TraceReader {
+    stage: Stage,
+    version: u8,
+    shards: u8,
+    events: u64,
+    messages: u64,
+}
+
+impl Model for TraceReader {
+    ghost use Rattle.trace_text.specs.Lines.{Standing, IsStanding};
+
+    ghost Value = { Standing };
+
+    ghost view = { λ r. record { stage = r.stage; version = r.version; shards = r.shards; events = r.events; messages = r.messages } };
+
+    ghost invariant = { λ r. IsStanding (record { stage = r.stage; version = r.version; shards = r.shards; events = r.events; messages = r.messages }) };
+}
+
+impl TraceReader {
+    /// It has taken no line yet.
+    pub fn new() -> TraceReader
+        ensures { result ≡ at_start }
+    {
+        TraceReader {
+            stage: Stage::Start,
+            version: 1,
+            shards: 0,
+            events: 0,
+            messages: 0,
+        }
+    }
+
+    /// Takes the next line, without its line feed. An `Err` leaves the reader as it was.
+    ///
+    /// # Errors
+    /// `Bad` exactly where the line is none that may stand behind the lines so far.
+    pub fn take(&mut self, alloc: Global, line: &[u8]) -> Result<TraceItem, TraceFault>
+        // What is taken is a line that may stand there, and the item is its.
+        ensures found { IfOk result (Accepts self.old line.now self.new) }
+        // A line that may stand there is taken, unless memory runs out.
+        ensures only { (wanted : Line) → MayStand self.old wanted → line.now ≡ line_text wanted → IsMemoryOr self.old wanted self.new result }
+        // Which line it is.
+        ensures exact { Answers self.old self.new result (line_in self.old line.now) }
+        ensures err { OnErr result (self.new ≡ self.old) }
+    {
+        self.answer(alloc, line)
+    }
+
+    fn stage(&self) -> Stage
+        ensures stage { result ≡ self.now.stage }
+        ensures standing { IsStanding self.now }
+    {
+        self.stage
+    }
+
+    fn answer(&mut self, alloc: Global, line: &[u8]) -> Result<TraceItem, TraceFault>
+        ensures exact { Answers self.old self.new result (line_in self.old line.now) }
+        ensures err { OnErr result (self.new ≡ self.old) }
+        ensures standing { IsStanding self.old }
+    {
+        let stage = self.stage();
+        match self.take_line(alloc, stage, line) {
+            Ok(Some(item)) => Ok(item),
+            Ok(None) => Err(TraceFault::Bad),
+            Err(OutOfMemory) => Err(TraceFault::OutOfMemory),
+        }
+    }
+
+    #[tactic(auto, unfolding(crate::specs::Readings::line_in))]
+    fn take_line(
+        &mut self,
+        alloc: Global,
+        stage: Stage,
+        line: &[u8],
+    ) -> Result<Option<TraceItem>, OutOfMemory>
+        requires { stage ≡ self.old.stage }
+        ensures item { IfOk result (λ item. Takes self.old self.new item (line_in self.old line.now)) }
+        ensures err { OnErr result (self.new ≡ self.old) }
+    {
+        match cut(line, b' ') {
+            Some((word, text)) => self.take_words(alloc, stage, word, text),
+            None => Ok(None),
+        }
+    }
+
+    #[tactic(auto, unfolding(crate::specs::Readings::line_of))]
+    fn take_words(
+        &mut self,
+        alloc: Global,
+        stage: Stage,
+        word: &[u8],
+        text: &[u8],
+    ) -> Result<Option<TraceItem>, OutOfMemory>
+        requires { stage ≡ self.old.stage }
+        ensures item { IfOk result (λ item. Takes self.old self.new item (line_of self.old word.now text.now)) }
+        ensures err { OnErr result (self.new ≡ self.old) }
+    {
+        if word == b"trace".as_slice() && stage.is_start() {
+            Ok(self.take_head(text))
+        } else if word == b"e".as_slice() && stage.is_within() {
+            Ok(self.take_event(text))
+        } else if word == b"m".as_slice() && stage.has_event() {
+            self.take_message(alloc, text)
+        } else if word == b"order".as_slice() && stage.is_within() {
+            self.take_order(alloc, text)
+        } else if word == b"end".as_slice() && stage.is_ordered() {
+            Ok(self.take_end(text))
+        } else if stage.is_event() {
+            self.take_note(alloc, word, text)
+        } else {
+            Ok(None)
+        }
+    }
+
+    #[tactic(auto, unfolding(crate::specs::Readings::head_of))]
+    fn take_head(&mut self, text: &[u8]) -> Option<TraceItem>
+        ensures { Takes self.old self.new result (head_of self.old text.now) }
+    {
+        let (version, rest) = cut(text, b' ')?;
+        let (rule, shards) = cut(rest, b' ')?;
+        let version = number_within(version, 1, 2)? as u8;
+        let rule = rule_in(rule)?;
+        let shards = number_within(shards, 1, u64::from(MAX_SHARDS))? as u8;
+        self.stage = Stage::Begun;
+        self.version = version;
+        self.shards = shards;
+        Some(TraceItem::Head { rule, shards })
+    }
+
+    #[tactic(auto, unfolding(crate::specs::Readings::event_of))]
+    fn take_event(&mut self, text: &[u8]) -> Option<TraceItem>
+        ensures { Takes self.old self.new result (event_of self.old text.now) }
+    {
+        let (number, result) = cut(text, b' ')?;
+        let number = next_number(number, self.events)?;
+        let _result = result_in(result)?;
+        self.stage = Stage::Event;
+        self.events = number;
+        Some(TraceItem::Event)
+    }
+
+    #[tactic(auto, unfolding(crate::specs::Readings::note_of))]
+    fn take_note(
+        &mut self,
+        alloc: Global,
+        word: &[u8],
+        text: &[u8],
+    ) -> Result<Option<TraceItem>, OutOfMemory>
+        ensures item { IfOk result (λ item. Takes self.old self.new item (note_of self.old word.now text.now)) }
+        ensures err { OnErr result (self.new ≡ self.old) }
+    {
+        match note_in(alloc, self.version, self.shards, word, text) {
+            Ok(Some(note)) => Ok(Some(TraceItem::NoteLine(note))),
+            Ok(None) => Ok(None),
+            Err(OutOfMemory) => Err(OutOfMemory),
+        }
+    }
+
+    #[tactic(auto, unfolding(crate::specs::Readings::message_of))]
+    fn take_message(&mut self, alloc: Global, text: &[u8]) -> Result<Option<TraceItem>, OutOfMemory>
+        ensures item { IfOk result (λ item. Takes self.old self.new item (message_of self.old text.now)) }
+        ensures err { OnErr result (self.new ≡ self.old) }
+    {
+        let Some((number, frame)) = ends_in(text, self.messages) else {
+            return Ok(None);
+        };
+        match frame_in(alloc, self.version, frame) {
+            Ok(Some(_)) => {
+                self.stage = Stage::Messages;
+                self.messages = number;
+                Ok(Some(TraceItem::MessageLine))
+            }
+            Ok(None) => Ok(None),
+            Err(OutOfMemory) => Err(OutOfMemory),
+        }
+    }
+
+    #[tactic(auto, unfolding(crate::specs::Readings::order_of))]
+    fn take_order(&mut self, alloc: Global, text: &[u8]) -> Result<Option<TraceItem>, OutOfMemory>
+        ensures item { IfOk result (λ item. Takes self.old self.new item (order_of text.now)) }
+        ensures err { OnErr result (self.new ≡ self.old) }
+    {
+        match order_in(alloc, text) {
+            Ok(Some(order)) => {
+                self.stage = Stage::Ordered;
+                Ok(Some(TraceItem::Order(TxList::of(order))))
+            }
+            Ok(None) => Ok(None),
+            Err(OutOfMemory) => Err(OutOfMemory),
+        }
+    }
+
+    #[tactic(auto, unfolding(crate::specs::Readings::end_of))]
+    fn take_end(&mut self, text: &[u8]) -> Option<TraceItem>
+        ensures { Takes self.old self.new result (end_of self.old text.now) }
+    {
+        let (events, messages) = cut(text, b' ')?;
+        let events = number_in(events)?;
+        let messages = number_in(messages)?;
+        if events == self.events && messages == self.messages {
+            self.stage = Stage::Ended;
+            Some(TraceItem::End)
+        } else {
+            None
+        }
+    }
+}
+
+/// The number of a message after so many others, and what follows its ends.
+#[tactic(auto, unfolding(crate::specs::Readings::ends_of))]
+fn ends_in(text: &[u8], messages: u64) -> Option<(u64, &[u8])>
+    ensures { option_map {U = ℕ × List ℕ} (λ x. (x.0, x.1.now)) result ≡ option_map (λ x. (x.number, x.rest)) (ends_of messages text.now) }
+{
+    let (number, rest) = cut(text, b' ')?;
+    let (from, rest) = cut(rest, b' ')?;
+    let (to, rest) = cut(rest, b' ')?;
+    let number = next_number(number, messages)?;
+    let _from = number_within(from, 0, u64::from(MAX_NODES))?;
+    let _to = number_within(to, 0, u64::from(MAX_NODES))?;
+    Some((number, rest))
+}
