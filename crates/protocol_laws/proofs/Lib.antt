@@ -1,0 +1,5 @@
+pub mod EffectOf
+pub mod ChangeOf
+pub mod OnwardOf
+pub mod After
+pub mod Lasting

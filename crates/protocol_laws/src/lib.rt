@@ -1,0 +1,4 @@
+//! What holds of every run of the protocol.
+#![tactic(auto)]
+
+pub mod steps;
