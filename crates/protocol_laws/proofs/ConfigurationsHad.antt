@@ -78,7 +78,7 @@ pub record Heard (input : Input) (c : Membership) : Type 0 where
 abbrev pub HadOrHeard : NodeRecord → Input → Membership → Type 0
 HadOrHeard node input c = StandsIn c (configs_of node) ⊎ Heard input c
 
-goes_on-views : (c : Coordinator) (txn : _) (case : _) (sends : List Outgoing) (out : Out Coordinator) → GoesOn c txn case sends out → out.kept.views ≡ c.views
+pub goes_on-views : (c : Coordinator) (txn : _) (case : _) (sends : List Outgoing) (out : Out Coordinator) → GoesOn c txn case sends out → out.kept.views ≡ c.views
 goes_on-views c txn case sends out (Waiting i) = refl
 goes_on-views c txn case sends out (Decides i) = refl
 
@@ -91,7 +91,7 @@ replaced-StandsIn (v ∷ vs) config c s = go (v.shard == config.shard) s (replac
     go false (inl e) ih = inl (inl e)
     go b (inr r) ih = elim (ih r) [ inl q ↦ inl (inr q) | inr e ↦ inr e ]
 
-replaced-shards : (views : List Membership) (config : Membership) → map (λ v. v.shard) (replaced views config) ≡ map (λ v. v.shard) views
+pub replaced-shards : (views : List Membership) (config : Membership) → map (λ v. v.shard) (replaced views config) ≡ map (λ v. v.shard) views
 replaced-shards [] config = refl
 replaced-shards (v ∷ vs) config = go (v.shard == config.shard) refl (replaced-shards vs config)
   where
@@ -99,7 +99,7 @@ replaced-shards (v ∷ vs) config = go (v.shard == config.shard) refl (replaced-
     go true e ih = cc (eqb-true v.shard config.shard e, ih)
     go false e ih = cc ih
 
-change_view-views : (k : Coordinator) (config : Membership) → (change_view k config).views ≡ replaced k.views config
+pub change_view-views : (k : Coordinator) (config : Membership) → (change_view k config).views ≡ replaced k.views config
 unfolding change_view
 change_view-views k config = refl
 
@@ -268,3 +268,12 @@ gathering_had tests version node input out (Leads from config q r p l) c s = inl
 gathering_had tests version node input out (Follows from config rows v m) c s = inl (gathered_from-had config.epoch node.gathering c s)
 gathering_had tests version node input out (Gathers from config number pieces rows gathering v m t g w) c s = gathers-had from number rows node.gathering config c pieces gathering g s
 gathering_had tests version node input out (FollowsPieces from config number pieces rows gathering v m t g w) c s = absurd s
+
+-- A configuration that a node has after an event it had, or was told.
+pub configs_had : (tests : Tests) (version : ℕ) (node : NodeRecord) (input : Input) (out : Out NodeRecord) → Effect tests version node input out
+    → (c : Membership) → StandsIn c (configs_of out.kept) → StandsIn c (configs_of node) ⊎ Heard input c
+configs_had tests version node input out e = each_config (λ c. StandsIn c (configs_of node) ⊎ Heard input c) out.kept
+    (λ c s. elim (views_had tests version node input out e c s) [ inl q ↦ inl ((had node c).views q) | inr h ↦ inr h ])
+    (λ c s. elim (role_had tests version node input out e c s) [ inl q ↦ inl ((had node c).role q) | inr h ↦ inr h ])
+    (λ c s. elim (prober_had tests version node input out e c s) [ inl q ↦ inl ((had node c).prober q) | inr h ↦ inr h ])
+    (λ c s. elim (gathering_had tests version node input out e c s) [ inl q ↦ inl ((had node c).gathering q) | inr h ↦ inr h ])

@@ -6,3 +6,6 @@ pub mod Lasting
 pub mod ConfigurationsSends
 pub mod ConfigurationsSaid
 pub mod ConfigurationsHad
+pub mod ConfigurationsSame
+pub mod ConfigurationsWanted
+pub mod ConfigurationsStored
