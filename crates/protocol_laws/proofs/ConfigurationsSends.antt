@@ -17,6 +17,7 @@ use Rattle.protocol.specs.Probing.{probe, ask_stage, tell_leader}
 use Rattle.protocol.specs.Records.{Part, Case, Coordinator, Stage}
 use Rattle.protocol.specs.Records.Stage.{Idle, AskedLast, Probing, AskedLower, CasSent}
 use Rattle.protocol.specs.Views.{view_of, followers}
+use Rattle.protocol.specs.Invariant.Configurations.{told_config}
 use Rattle.protocol.specs.Invariant.Time.{StandsIn}
 use Rattle.protocol.proofs.Lists.{StandsIn-append}
 use Rattle.protocol_laws.specs.Effect.{AreNotices, GoesOn}
@@ -42,6 +43,25 @@ is_plain (Stored config) = false
 is_plain (OutcomeOf txn decision) = true
 is_plain (Refused kind why mark) = true
 is_plain (StatePiece config piece pieces rows) = false
+
+pub plain-tells : (m : Message) → is_plain m ≡ true → told_config m ≡ None
+plain-tells (Prepare epoch txn shards payload) h = refl
+plain-tells (PrepareAck shard epoch entry) h = refl
+plain-tells (Accept epoch entry) h = refl
+plain-tells (AcceptAck shard epoch slot txn) h = refl
+plain-tells (DecisionFor epoch slot txn commit) h = refl
+plain-tells (Probe epoch) h = refl
+plain-tells (ProbeAck epoch state) h = absurd (cc h)
+plain-tells (NewConfig config) h = absurd (cc h)
+plain-tells (NewState config rows) h = absurd (cc h)
+plain-tells (ConfigChange config) h = absurd (cc h)
+plain-tells (Last shard) h = refl
+plain-tells (At shard epoch) h = refl
+plain-tells (Cas config) h = absurd (cc h)
+plain-tells (Stored config) h = absurd (cc h)
+plain-tells (OutcomeOf txn decision) h = refl
+plain-tells (Refused kind why mark) h = refl
+plain-tells (StatePiece config piece pieces rows) h = absurd (cc h)
 
 abbrev pub ArePlain : List Outgoing → Type 0
 ArePlain os = (o : Outgoing) → StandsIn o os → is_plain o.message ≡ true

@@ -9,3 +9,5 @@ pub mod ConfigurationsHad
 pub mod ConfigurationsSame
 pub mod ConfigurationsWanted
 pub mod ConfigurationsStored
+pub mod ConfigurationsInputs
+pub mod ConfigurationsKept
