@@ -11,3 +11,5 @@ pub mod ConfigurationsWanted
 pub mod ConfigurationsStored
 pub mod ConfigurationsInputs
 pub mod ConfigurationsKept
+pub mod PromisesOrder
+pub mod PromisesRows
