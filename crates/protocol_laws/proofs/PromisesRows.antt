@@ -1,5 +1,5 @@
 -- What becomes of rows stays fit for a log: rows appended, put, marked, and gathered from pieces.
-use Rattle.std.proofs.Common.{◌≡◌, ℕ, zero, suc, ◌+◌, ◌<◌, ◌≤◌, Bool, true, false, cond, not, List, [], ◌∷◌, ◌++◌, map, filter, flat_map, find, Option, Some, None, is_some, ◌==◌, ◌&&◌, ◌||◌, ◌⊎◌, inl, inr, sym, ◌∙◌, ap, subst, refl, arith, eqb-true, eq-eqb, ltb-true, lt-ltb, leb-true, le-leb, nat_le, nat_lt, IsTrue}
+use Rattle.std.proofs.Common.{◌≡◌, ℕ, zero, suc, ◌+◌, ◌<◌, ◌≤◌, Bool, true, false, cond, not, List, [], ◌∷◌, ◌++◌, map, filter, flat_map, find, Option, Some, None, is_some, ◌==◌, ◌&&◌, ◌||◌, ◌⊎◌, inl, inr, sym, ◌∙◌, ap, subst, refl, arith, eqb-true, eq-eqb, ltb-true, lt-ltb, leb-false, le-leb, nat_le, nat_lt, IsTrue}
 use Rattle.std.specs.List.{list_all, list_any, last_or}
 use Rattle.std.proofs.lemmas.List.{map-append}
 use Rattle.tcs_terms.specs.declared.ids.TxId.{TxId}
@@ -65,7 +65,7 @@ one-in_order : (x : Preparation) → slot_fits x ≡ true → InOrder (x ∷ [])
 one-in_order x f = (record { fits = f; lower = λ y s. absurd s; apart = λ y s e. absurd s }, tt)
 
 not-full : (n : ℕ) (last : ℕ) → nat_le MAX_SLOT last ≡ false → n ≡ last + 1 → nat_le 1 n && nat_le n MAX_SLOT ≡ true
-not-full n last h e = ?
+not-full n last h e = both (nat_le 1 n) (nat_le n MAX_SLOT) (le-leb 1 n (omega (arith, e))) (le-leb n MAX_SLOT (let l : last < MAX_SLOT = leb-false MAX_SLOT last h in omega (arith, e, l)))
 
 -- rows with a new entry at the end
 pub appended-rows : (rows : List Row) (x : Preparation) → AreRows rows → row_of rows x.txn ≡ None → is_full rows ≡ false → x.slot ≡ last_slot rows + 1 → AreRows (rows ++ undecided x ∷ [])
