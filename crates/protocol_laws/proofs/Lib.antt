@@ -13,3 +13,4 @@ pub mod ConfigurationsInputs
 pub mod ConfigurationsKept
 pub mod PromisesOrder
 pub mod PromisesRows
+pub mod PromisesPieces
