@@ -106,7 +106,7 @@ wants_well setup t node c h n = record {
 }
 
 -- a configuration that the input told is stored
-heard_is_stored : (setup : Deployment) (t : Moment) (name : ℕ) (event : Event) (input : Input) → ConfigurationsHold setup t → Comes t.now name event input → event_fits setup event ≡ true → (c : Membership) → Heard input c → IsStored t c
+pub heard_is_stored : (setup : Deployment) (t : Moment) (name : ℕ) (event : Event) (input : Input) → ConfigurationsHold setup t → Comes t.now name event input → event_fits setup event ≡ true → (c : Membership) → Heard input c → IsStored t c
 heard_is_stored setup t name event input c k f d h = c.in_messages h.from name h.message d (delivered setup t name event input k f h.from h.message h.is) h.told
 
 plain-fits : (setup : Deployment) (u : Moment) (m : Message) → is_plain m ≡ true → MessageFits setup u m

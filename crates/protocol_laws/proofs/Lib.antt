@@ -14,3 +14,6 @@ pub mod ConfigurationsKept
 pub mod PromisesOrder
 pub mod PromisesRows
 pub mod PromisesPieces
+pub mod PromisesSent
+pub mod PromisesNode
+pub mod PromisesKept
