@@ -118,7 +118,7 @@ plain-fits setup u m p = record {
 -- what a node says is so
 said-fits : (setup : Deployment) (t u : Moment) (node kept : NodeRecord) (input : Input) (m : Message) → ((c : Membership) → Heard input c → IsStored u c) → WantsNodes setup kept.prober → Says node kept input m → MessageFits setup u m
 said-fits setup t u node kept input m h w (Plainly n p) = plain-fits setup u n p
-said-fits setup t u node kept input m h w (Answers from epoch e l) = record { stored = λ c e. absurd (cc e); proposed = λ c e. absurd (cc e) }
+said-fits setup t u node kept input m h w (Answers from epoch e l st pr) = record { stored = λ c e. absurd (cc e); proposed = λ c e. absurd (cc e) }
 said-fits setup t u node kept input m h w (Tells n from heard c e k q) = record {
   stored = λ d r. let x : c ≡ d = cc (q, r) in subst (λ y. IsStored u y) x (h c (record { from = from; message = heard; is = e; told = k }));
   proposed = λ d r. absurd (cc (q, ap told_config r));

@@ -26,11 +26,11 @@ use Rattle.protocol_laws.specs.Effect.Hears.{Waits, ProbesLast, ProbesLower, IsD
 use Rattle.protocol_laws.specs.Effect.Effect.{Rests, Certifies, TakesOver, Nudges, Moves, Lowers, Reads, Asks, AnswersAgain, Appends, Votes, Acknowledges, Changes, Learns, Keeps, Accepts, Marks, Promises, Chooses, FindsLow, Leads, Follows, Gathers, FollowsPieces}
 use Rattle.protocol_laws.proofs.ConfigurationsSends.{is_plain, ArePlain, one-plain, append-plain, send_case-plain, resend-plain, ask_leader-plain, accept-plain, goes_on-plain, probe-plain, notices-plain}
 
--- What a node says with an input, after which it is `kept`: something plain; its state epoch, to a probe; a configuration
+-- What a node says with an input, after which it is `kept`: something plain; its state epoch, to a probe that it promises; a configuration
 -- that the input told; or a configuration that it proposes and keeps.
 pub data Says (node kept : NodeRecord) (input : Input) : Message → Type 0 where
   Plainly : (m : Message) → is_plain m ≡ true → Says node kept input m
-  Answers : (from epoch : ℕ) → input ≡ inputs.Deliver from (Probe epoch) → least node ≤ epoch → Says node kept input (ProbeAck epoch node.state)
+  Answers : (from epoch : ℕ) → input ≡ inputs.Deliver from (Probe epoch) → least node ≤ epoch → kept.state ≡ node.state → kept.promised ≡ epoch → Says node kept input (ProbeAck epoch node.state)
   Tells : (m : Message) (from : ℕ) (heard : Message) (c : Membership) → input ≡ inputs.Deliver from heard → told_config heard ≡ Some c → told_config m ≡ Some c → Says node kept input m
   Proposes : (c : Membership) → kept.prober ≡ CasSent c → Says node kept input (Cas c)
 
@@ -113,7 +113,7 @@ says tests version node input out (Learns from config coordinator sent stage ask
 says tests version node input out (Keeps from txn decision h n) = λ o s. absurd s
 says tests version node input out (Accepts from epoch entry f e t) = one-said node _ _ _ (Plainly _ refl)
 says tests version node input out (Marks from epoch slot txn commit e h) = λ o s. absurd s
-says tests version node input out (Promises from epoch l) = one-said node _ _ _ (Answers from epoch refl l)
+says tests version node input out (Promises from epoch l) = one-said node _ _ _ (Answers from epoch refl l refl refl)
 says tests version node input out (Chooses from state shard want epoch probed low e a l) = one-said node _ _ _ (Proposes _ refl)
 says tests version node input out (FindsLow from state shard want epoch probed low e a l) = λ o s. absurd s
 says tests version node input out (Leads from config s r p l) = flat_map-said node _ _ (state_to version config node.rows) (followers config) (λ name. state_to-said node _ from version config node.rows name)

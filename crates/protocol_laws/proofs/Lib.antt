@@ -17,3 +17,5 @@ pub mod PromisesPieces
 pub mod PromisesSent
 pub mod PromisesNode
 pub mod PromisesKept
+pub mod ProbeAnswersSent
+pub mod ProbeAnswersKept
