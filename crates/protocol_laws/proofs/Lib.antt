@@ -19,3 +19,6 @@ pub mod PromisesNode
 pub mod PromisesKept
 pub mod ProbeAnswersSent
 pub mod ProbeAnswersKept
+pub mod ChoiceOn
+pub mod ChoiceStage
+pub mod ChoiceKept
