@@ -1,5 +1,5 @@
 -- One event keeps leader choice.
-use Rattle.std.proofs.Common.{◌≡◌, ℕ, ◌<◌, ◌≤◌, ◌+◌, true, None, Some, List, ◌⊎◌, inl, inr, sym, ◌∙◌, ap, subst, refl}
+use Rattle.std.proofs.Common.{◌≡◌, ℕ, true, Some, ◌⊎◌, inl, inr, sym, ◌∙◌, ap, subst, refl}
 use Rattle.tcs_terms.specs.declared.inputs.Event.{Event}
 use Rattle.tcs_terms.specs.declared.inputs.Input.{Input}
 use Rattle.tcs_terms.specs.declared.messages.Message.{Message}
@@ -9,7 +9,6 @@ use Rattle.tcs_terms.specs.Places.{Membership}
 use Rattle.tcs_terms.specs.Setups.{Deployment}
 use Rattle.tcs_laws.specs.Certification.{Tests}
 use Rattle.protocol.specs.Records.{NodeRecord}
-use Rattle.protocol.specs.Records.Stage.{CasSent}
 use Rattle.protocol.specs.World.{Happening}
 use Rattle.protocol.specs.Invariant.{InvariantHolds}
 use Rattle.protocol.specs.Invariant.Answers.{AnswersHold}
@@ -40,7 +39,7 @@ stages_held tests setup t event h v f (Passes e result a) node n = v.choice.stag
 stages_held tests setup t event h v f (Stops name) node n = v.choice.stages node n
 stages_held tests setup t event h v f (Acts e name old input out k o there named g x) node n = elim (put_node-back out.kept t.now.nodes node n) [
   | inl q ↦ subst (λ m. StageHolds t m.prober) (sym q)
-    (stage_holds setup t tests setup.version old input out x v.configurations v.answers there (λ from m i. subst (λ r. WasSent t from r m) (sym named) (delivered setup t name e input k f from m i)) (v.choice.stages old there))
+      (stage_holds setup t tests setup.version old input out x v.configurations v.answers there (λ from m i. subst (λ r. WasSent t from r m) (sym named) (delivered setup t name e input k f from m i)) (v.choice.stages old there))
   | inr q ↦ v.choice.stages node q.0
 ]
 stages_held tests setup t event h v f (AtService number from message sent out e o s x) node n = v.choice.stages node n

@@ -1,5 +1,5 @@
 -- What leader choice says of a stage or a configuration stays so.
-use Rattle.std.proofs.Common.{◌≡◌, ℕ, ◌<◌, ◌≤◌, ◌+◌, ◌⊎◌, inl, inr, sym, ◌∙◌, ap, subst, refl, arith}
+use Rattle.std.proofs.Common.{ℕ, ◌<◌, sym, ◌∙◌, subst, arith}
 use Rattle.tcs_terms.specs.declared.messages.Message.TheVariants.{ProbeAck}
 use Rattle.tcs_terms.specs.Places.{Membership}
 use Rattle.tcs_terms.specs.Setups.{Deployment}

@@ -1,5 +1,5 @@
 -- A prober's next stage holds, by what held before.
-use Rattle.std.proofs.Common.{◌≡◌, ℕ, zero, suc, ◌<◌, ◌≤◌, ◌+◌, ◌-◌, Bool, true, false, cond, List, [], ◌∷◌, ◌++◌, map, filter, length, Some, ◌⊎◌, inl, inr, sym, ◌∙◌, ap, subst, refl, arith, ◌==◌, eq-eqb, eqb-true}
+use Rattle.std.proofs.Common.{◌≡◌, ℕ, zero, suc, ◌<◌, ◌≤◌, ◌+◌, ◌-◌, Bool, true, false, cond, List, [], ◌∷◌, ◌++◌, map, filter, length, ◌⊎◌, inl, inr, sym, ◌∙◌, ap, subst, refl, arith, ◌==◌, eq-eqb, eqb-true}
 use Rattle.std.proofs.lemmas.Bool.{eqb-false}
 use Rattle.std.specs.List.{range_with_len}
 use Rattle.tcs_terms.specs.declared.inputs.Input.{Input}
@@ -14,7 +14,7 @@ use Rattle.protocol.specs.Coordination.{add_once}
 use Rattle.protocol.specs.Outcomes.{Out}
 use Rattle.protocol.specs.Probing.{proposed}
 use Rattle.protocol.specs.Records.{Stage, NodeRecord}
-use Rattle.protocol.specs.Records.Stage.{Idle, AskedLast, Probing, AskedLower, CasSent}
+use Rattle.protocol.specs.Records.Stage.{Probing}
 use Rattle.protocol.specs.Service.{last_epoch}
 use Rattle.protocol.specs.Invariant.Answers.{AnswerHolds, AnswersHold}
 use Rattle.protocol.specs.Invariant.Choice.{StandsAt, IsLow, IsChosen, StageHolds}
@@ -131,10 +131,14 @@ once-StandsIn nodes node name s = go (is_among nodes node) s
 
 finds-low : (t : Moment) (shard : ℕ) (want : List ℕ) (epoch : ℕ) (probed : Membership) (low : List ℕ) (from state : ℕ) → ProbesWell t shard epoch probed low → AnswerHolds t from epoch state → is_among probed.members from ≡ true → state < probed.epoch
     → StageHolds t (Probing shard want epoch probed (add_once low from))
-finds-low t shard want epoch probed low from state w a m l = (w.of_shard, w.at, λ name s. elim (once-StandsIn low from name s) [
-  | inl e ↦ subst (λ n. IsLow t epoch probed n) (sym e) (answers-low t shard epoch probed low from state w a m l)
-  | inr r ↦ w.lows name r
-])
+finds-low t shard want epoch probed low from state w a m l = (
+  w.of_shard,
+  w.at,
+  λ name s. elim (once-StandsIn low from name s) [
+    | inl e ↦ subst (λ n. IsLow t epoch probed n) (sym e) (answers-low t shard epoch probed low from state w a m l)
+    | inr r ↦ w.lows name r
+  ],
+)
 
 chooses : (t : Moment) (me shard : ℕ) (want : List ℕ) (epoch : ℕ) (probed : Membership) (low : List ℕ) (from state : ℕ) → ProbesWell t shard epoch probed low → WasSent t from me (ProbeAck epoch state) → probed.epoch ≤ state → IsChosen t (proposed me shard epoch want from)
 chooses t me shard want epoch probed low from state w s l = record {

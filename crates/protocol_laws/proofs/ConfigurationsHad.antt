@@ -1,31 +1,27 @@
 -- The configurations that a node has, and the nodes that it wants, after one event.
-use Rattle.std.proofs.Common.{◌≡◌, ℕ, ◌-◌, Bool, true, false, cond, List, [], ◌∷◌, ◌++◌, map, filter, Option, Some, None, ◌⊎◌, inl, inr, sym, ◌∙◌, subst, ap, refl, ◌==◌, ◌≤◌, ◌&&◌, nat_lt, nat_le, eqb-true, IsTrue}
-use Rattle.std.specs.List.{list_all, range_with_len}
+use Rattle.std.proofs.Common.{◌≡◌, ℕ, Bool, true, false, cond, List, [], ◌∷◌, ◌++◌, map, Option, Some, None, ◌⊎◌, inl, inr, sym, ◌∙◌, subst, ap, refl, ◌==◌, nat_lt, eqb-true}
 use Rattle.tcs_terms.specs.declared.inputs.Input.{Input}
 use Rattle.tcs_terms.specs.declared.inputs.Input.TheVariants as inputs
 use Rattle.tcs_terms.specs.declared.logs.Row.{Row}
 use Rattle.tcs_terms.specs.declared.messages.Message.{Message}
 use Rattle.tcs_terms.specs.declared.messages.Message.TheVariants.{NewConfig, NewState, ConfigChange, Stored, StatePiece}
 use Rattle.tcs_terms.specs.declared.messages.Outgoing.{Outgoing}
-use Rattle.tcs_terms.specs.Places.{Membership, is_among}
-use Rattle.tcs_terms.specs.Setups.{Deployment, is_node_of}
+use Rattle.tcs_terms.specs.Places.{Membership}
 use Rattle.tcs_laws.specs.Certification.{Tests}
 use Rattle.protocol.specs.Coordination.{change_view}
 use Rattle.protocol.specs.Outcomes.{Out}
 use Rattle.protocol.specs.Pieces.{gathering_for, gathered_from, with_one_more, with_piece, begun, is_gathering_of, is_kept}
-use Rattle.protocol.specs.Probing.{joined, proposed}
-use Rattle.protocol.specs.Records.{Role, Piece, Coordinator, Stage, Gathering, NodeRecord}
-use Rattle.protocol.specs.Records.Role.{Fenced, Leader, Follower}
-use Rattle.protocol.specs.Records.Stage.{Idle, AskedLast, Probing, AskedLower, CasSent}
+use Rattle.protocol.specs.Records.{Piece, Coordinator, Stage, Gathering, NodeRecord}
 use Rattle.protocol.specs.Views.{replaced}
-use Rattle.protocol.specs.Invariant.Configurations.{told_config, role_configs, probed_configs, gathered_configs, configs_of, HasMembers, WantsNodes}
+use Rattle.protocol.specs.Invariant.Configurations.{told_config, role_configs, probed_configs, gathered_configs, configs_of}
 use Rattle.protocol.specs.Invariant.Time.{StandsIn}
-use Rattle.protocol.proofs.Lists.{StandsIn-append, all-StandsIn, among-StandsIn}
+use Rattle.protocol.proofs.Lists.{StandsIn-append}
 use Rattle.protocol_laws.specs.Effect.{Sees, Hears, GoesOn, Effect}
 use Rattle.protocol_laws.specs.Effect.GoesOn.{Waiting, Decides}
 use Rattle.protocol_laws.specs.Effect.Sees.{Replaces, Keeps as KeepsView}
 use Rattle.protocol_laws.specs.Effect.Hears.{Waits, ProbesLast, ProbesLower, IsDone}
 use Rattle.protocol_laws.specs.Effect.Effect.{Rests, Certifies, TakesOver, Nudges, Moves, Lowers, Reads, Asks, AnswersAgain, Appends, Votes, Acknowledges, Changes, Learns, Keeps, Accepts, Marks, Promises, Chooses, FindsLow, Leads, Follows, Gathers, FollowsPieces}
+use Rattle.protocol_laws.proofs.ConfigurationsLists.{StandsIn-left, StandsIn-right}
 
 -- the places that a node keeps: its role, its views, its stage and what it gathers
 pub record Had (node : NodeRecord) (c : Membership) : Type 0 where
@@ -33,15 +29,6 @@ pub record Had (node : NodeRecord) (c : Membership) : Type 0 where
   pub role : StandsIn c (role_configs node.role) → StandsIn c (configs_of node)
   pub prober : StandsIn c (probed_configs node.prober) → StandsIn c (configs_of node)
   pub gathering : StandsIn c (gathered_configs node.gathering) → StandsIn c (configs_of node)
-
-pub StandsIn-left : {X : Type 0} (xs ys : List X) (x : X) → StandsIn x xs → StandsIn x (xs ++ ys)
-StandsIn-left [] ys x s = absurd s
-StandsIn-left (z ∷ zs) ys x (inl e) = inl e
-StandsIn-left (z ∷ zs) ys x (inr s) = inr (StandsIn-left zs ys x s)
-
-pub StandsIn-right : {X : Type 0} (xs ys : List X) (x : X) → StandsIn x ys → StandsIn x (xs ++ ys)
-StandsIn-right [] ys x s = s
-StandsIn-right (z ∷ zs) ys x s = inr (StandsIn-right zs ys x s)
 
 pub had : (node : NodeRecord) (c : Membership) → Had node c
 had node c =
@@ -73,10 +60,6 @@ pub record Heard (input : Input) (c : Membership) : Type 0 where
   pub message : Message
   pub is : input ≡ inputs.Deliver from message
   pub told : told_config message ≡ Some c
-
--- a configuration that a node had, or that the input told
-abbrev pub HadOrHeard : NodeRecord → Input → Membership → Type 0
-HadOrHeard node input c = StandsIn c (configs_of node) ⊎ Heard input c
 
 pub goes_on-views : (c : Coordinator) (txn : _) (case : _) (sends : List Outgoing) (out : Out Coordinator) → GoesOn c txn case sends out → out.kept.views ≡ c.views
 goes_on-views c txn case sends out (Waiting i) = refl

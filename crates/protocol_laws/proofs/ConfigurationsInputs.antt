@@ -1,5 +1,5 @@
 -- How an input came: a message that was sent to the node, or a call that fits the setup.
-use Rattle.std.proofs.Common.{◌≡◌, ℕ, Bool, true, false, List, [], ◌∷◌, ◌&&◌, sym, ◌∙◌, subst, ap, refl, IsTrue, nat_le, length}
+use Rattle.std.proofs.Common.{◌≡◌, ℕ, true, List, ◌&&◌, ◌∙◌, subst, IsTrue, nat_le, length}
 use Rattle.std.specs.List.{list_all}
 use Rattle.tcs_terms.specs.declared.inputs.Event.{Event}
 use Rattle.tcs_terms.specs.declared.inputs.Input.{Input}
@@ -9,7 +9,6 @@ use Rattle.tcs_terms.specs.declared.messages.Message.{Message}
 use Rattle.tcs_terms.specs.Events.{event_fits, input_fits, has_shard}
 use Rattle.tcs_terms.specs.Order.{ascends}
 use Rattle.tcs_terms.specs.Setups.{Deployment, has_node, is_node_of}
-use Rattle.protocol.specs.World.{Sent}
 use Rattle.protocol.specs.Invariant.Time.{Moment, StandsIn, WasSent}
 use Rattle.protocol.proofs.FirstRoles.{and-right}
 use Rattle.protocol_laws.specs.Change.{Comes}

@@ -1,5 +1,5 @@
 -- One event keeps what the invariant says of configurations.
-use Rattle.std.proofs.Common.{◌≡◌, ℕ, Bool, true, false, cond, List, [], ◌∷◌, ◌++◌, map, filter, length, Some, None, ◌⊎◌, inl, inr, sym, ◌∙◌, subst, ap, refl, ◌==◌, ◌≤◌, eqb-true, IsTrue}
+use Rattle.std.proofs.Common.{◌≡◌, ℕ, Bool, true, false, cond, List, [], ◌∷◌, map, filter, length, Some, None, inl, inr, sym, ◌∙◌, subst, ap, refl, ◌==◌, eqb-true}
 use Rattle.std.specs.List.{range_with_len}
 use Rattle.tcs_terms.specs.declared.inputs.Event.{Event}
 use Rattle.tcs_terms.specs.declared.inputs.Input.{Input}
@@ -10,10 +10,9 @@ use Rattle.tcs_terms.specs.Places.{Membership}
 use Rattle.tcs_terms.specs.Setups.{Deployment}
 use Rattle.tcs_laws.specs.Certification.{Tests}
 use Rattle.protocol.specs.Outcomes.{Out}
-use Rattle.protocol.specs.Records.{Stage, NodeRecord}
-use Rattle.protocol.specs.Records.Stage.{Probing, CasSent}
+use Rattle.protocol.specs.Records.{NodeRecord}
 use Rattle.protocol.specs.Service.{last_epoch}
-use Rattle.protocol.specs.World.{World, Sent, Happening, put_node, sent_by, happens_at, happens_at_service}
+use Rattle.protocol.specs.World.{World, Sent, Happening, put_node, happens_at, happens_at_service}
 use Rattle.protocol.specs.Invariant.{InvariantHolds}
 use Rattle.protocol.specs.Invariant.Choice.{ChoiceHolds, StageHolds}
 use Rattle.protocol.specs.Invariant.Configurations.{ConfigurationsHold, HasMembers, WantsNodes, configs_of, probed_configs, told_config, epochs_of}
@@ -22,7 +21,7 @@ use Rattle.protocol_laws.specs.Change.{Comes, Serves, Change}
 use Rattle.protocol_laws.specs.Change.Change.{Passes, Stops, Acts, AtService}
 use Rattle.protocol_laws.specs.Effect.{Effect}
 use Rattle.protocol_laws.specs.Turn.{Turn}
-use Rattle.protocol_laws.proofs.After.{put_node-back, sent-back, IsNew}
+use Rattle.protocol_laws.proofs.After.{put_node-back, sent-back}
 use Rattle.protocol_laws.proofs.Lasting.{one_node}
 use Rattle.protocol_laws.proofs.ConfigurationsSends.{is_plain, plain-tells}
 use Rattle.protocol_laws.proofs.ConfigurationsSaid.{Says, says}
@@ -46,7 +45,7 @@ record MessageFits (setup : Deployment) (u : Moment) (m : Message) : Type 0 wher
   pub proposed : (c : Membership) → m ≡ Cas c → HasMembers setup c
 
 -- what a later moment has of an earlier one: nodes have their names and shards, the rest is said one by one
-record Comes_to (setup : Deployment) (t u : Moment) : Type 0 where
+record KeepsPlaces (setup : Deployment) (t u : Moment) : Type 0 where
   pub names : map (λ n. n.name) u.now.nodes ≡ map (λ n. n.name) t.now.nodes
   pub shards : map (λ n. n.shard) u.now.nodes ≡ map (λ n. n.shard) t.now.nodes
   pub epochs : (shard : ℕ) → epochs_of u shard ≡ range_with_len 1 (last_epoch u.now.configs shard)
@@ -54,8 +53,8 @@ record Comes_to (setup : Deployment) (t u : Moment) : Type 0 where
   pub messages : (s : Sent) → StandsIn s u.now.messages → MessageFits setup u s.message
   pub members : (c : Membership) → IsStored u c → HasMembers setup c
 
-comes_to-kept : (setup : Deployment) (t u : Moment) → ConfigurationsHold setup t → Comes_to setup t u → ConfigurationsHold setup u
-comes_to-kept setup t u c k = record {
+keeps_places : (setup : Deployment) (t u : Moment) → ConfigurationsHold setup t → KeepsPlaces setup t u → ConfigurationsHold setup u
+keeps_places setup t u c k = record {
   names = k.names ∙ c.names;
   shards = k.shards ∙ c.shards;
   views = λ node n. (k.nodes node n).views;
@@ -77,7 +76,7 @@ old_message setup t u c keep s k = record {
 }
 
 -- nodes, configurations and messages as they were
-nothing_changes : (setup : Deployment) (t : Moment) (w : World) → ConfigurationsHold setup t → w.nodes ≡ t.now.nodes → w.configs ≡ t.now.configs → w.messages ≡ t.now.messages → Comes_to setup t (goes_to t w)
+nothing_changes : (setup : Deployment) (t : Moment) (w : World) → ConfigurationsHold setup t → w.nodes ≡ t.now.nodes → w.configs ≡ t.now.configs → w.messages ≡ t.now.messages → KeepsPlaces setup t (goes_to t w)
 nothing_changes setup t w c n g m = record {
   names = ap (λ ns. map (λ n. n.name) ns) n;
   shards = ap (λ ns. map (λ n. n.shard) ns) n;
@@ -102,7 +101,8 @@ wants_well setup t node c h n = record {
   wants = c.wanted node n;
   probed = λ shard want epoch k low e. (
     c.members k (c.in_nodes node k n ((had node k).prober (subst (λ p. StandsIn k (probed_configs p)) (sym e) (inl refl)))),
-    (subst (λ p. StageHolds t p) e (h.stages node n)).0);
+    (subst (λ p. StageHolds t p) e (h.stages node n)).0,
+  );
 }
 
 -- a configuration that the input told is stored
@@ -116,20 +116,20 @@ plain-fits setup u m p = record {
 }
 
 -- what a node says is so
-said-fits : (setup : Deployment) (t u : Moment) (node kept : NodeRecord) (input : Input) (m : Message) → ((c : Membership) → Heard input c → IsStored u c) → WantsNodes setup kept.prober → Says node kept input m → MessageFits setup u m
-said-fits setup t u node kept input m h w (Plainly n p) = plain-fits setup u n p
-said-fits setup t u node kept input m h w (Answers from epoch e l st pr) = record { stored = λ c e. absurd (cc e); proposed = λ c e. absurd (cc e) }
-said-fits setup t u node kept input m h w (Tells n from heard c e k q) = record {
+said-fits : (setup : Deployment) (u : Moment) (node kept : NodeRecord) (input : Input) (m : Message) → ((c : Membership) → Heard input c → IsStored u c) → WantsNodes setup kept.prober → Says node kept input m → MessageFits setup u m
+said-fits setup u node kept input m h w (Plainly n p) = plain-fits setup u n p
+said-fits setup u node kept input m h w (Answers from epoch e l st pr) = record { stored = λ c e. absurd (cc e); proposed = λ c e. absurd (cc e) }
+said-fits setup u node kept input m h w (Tells n from heard c e k q) = record {
   stored = λ d r. let x : c ≡ d = cc (q, r) in subst (λ y. IsStored u y) x (h c (record { from = from; message = heard; is = e; told = k }));
   proposed = λ d r. absurd (cc (q, ap told_config r));
 }
-said-fits setup t u node kept input m h w (Proposes c e) = record {
+said-fits setup u node kept input m h w (Proposes c e) = record {
   stored = λ d r. absurd (cc r);
   proposed = λ d r. let x : c ≡ d = cc r in subst (λ y. HasMembers setup y) x (subst (λ p. WantsNodes setup p) e w);
 }
 
 acts_kept : (tests : Tests) (setup : Deployment) (t : Moment) (event : Event) (name : ℕ) (node : NodeRecord) (input : Input) (out : Out NodeRecord) → InvariantHolds tests setup t → event_fits setup event ≡ true
-    → Comes t.now name event input → IsNode t node → Effect tests setup.version node input out → Comes_to setup t (goes_to t (happens_at t.now name out).after)
+    → Comes t.now name event input → IsNode t node → Effect tests setup.version node input out → KeepsPlaces setup t (goes_to t (happens_at t.now name out).after)
 acts_kept tests setup t event name node input out v f k n e =
     let c : ConfigurationsHold setup t = v.configurations in
     let same : SameNode node out.kept = same_node tests setup.version node input out e in
@@ -149,7 +149,7 @@ acts_kept tests setup t event name node input out v f k n e =
       ];
       messages = λ m s. elim (sent-back t.now.messages name out.sends m s) [
         | inl q ↦ old_message setup t u c (λ d r. r) m q
-        | inr q ↦ subst (λ x. MessageFits setup u x.message) (sym q.is) (said-fits setup t u node out.kept input q.outgoing.message (heard_is_stored setup t name event input c k f) wanted (says tests setup.version node input out e q.outgoing q.among))
+        | inr q ↦ subst (λ x. MessageFits setup u x.message) (sym q.is) (said-fits setup u node out.kept input q.outgoing.message (heard_is_stored setup t name event input c k f) wanted (says tests setup.version node input out e q.outgoing q.among))
       ];
       members = c.members;
     }
@@ -159,7 +159,7 @@ service-fits setup u m (SaysPlainly n p) = plain-fits setup u n p
 service-fits setup u m (TellsStored n c k e d) = record { stored = λ q r. let x : c ≡ q = cc (e, r) in subst (λ y. IsStored u y) x k; proposed = λ q r. absurd (d q r) }
 
 serves_kept : (setup : Deployment) (t : Moment) (from : ℕ) (message : Message) (out : Out (List Membership)) → ConfigurationsHold setup t → WasSent t from 0 message
-    → Serves (length t.now.nodes) t.now.configs from message out → Comes_to setup t (goes_to t (happens_at_service t.now out).after)
+    → Serves (length t.now.nodes) t.now.configs from message out → KeepsPlaces setup t (goes_to t (happens_at_service t.now out).after)
 serves_kept setup t from message out c sent s =
     let u : Moment = goes_to t (happens_at_service t.now out).after in
     let n : ℕ = length t.now.nodes in
@@ -179,7 +179,7 @@ serves_kept setup t from message out c sent s =
       ];
     }
 
-change_kept : (tests : Tests) (setup : Deployment) (t : Moment) (event : Event) (h : Happening) → InvariantHolds tests setup t → event_fits setup event ≡ true → Change tests setup.version t.now event h → Comes_to setup t (goes_to t h.after)
+change_kept : (tests : Tests) (setup : Deployment) (t : Moment) (event : Event) (h : Happening) → InvariantHolds tests setup t → event_fits setup event ≡ true → Change tests setup.version t.now event h → KeepsPlaces setup t (goes_to t h.after)
 change_kept tests setup t event h v f (Passes e result a) = nothing_changes setup t t.now v.configurations refl refl refl
 change_kept tests setup t event h v f (Stops name) = nothing_changes setup t _ v.configurations refl refl refl
 change_kept tests setup t event h v f (Acts e name node input out k o n m g x) = acts_kept tests setup t event name node input out v f k n x
@@ -188,4 +188,4 @@ change_kept tests setup t event h v f (AtService number from message sent out e 
 
 -- One event keeps the configurations.
 pub configurations_kept : (tests : Tests) (setup : Deployment) (t : Moment) (event : Event) (h : Happening) → Turn tests setup t event h → ConfigurationsHold setup (goes_to t h.after)
-configurations_kept tests setup t event h turn = comes_to-kept setup t (goes_to t h.after) turn.before.configurations (change_kept tests setup t event h turn.before turn.fits turn.change)
+configurations_kept tests setup t event h turn = keeps_places setup t (goes_to t h.after) turn.before.configurations (change_kept tests setup t event h turn.before turn.fits turn.change)

@@ -1,5 +1,5 @@
 -- What a node says of places in one event, rule by rule.
-use Rattle.std.proofs.Common.{◌≡◌, ℕ, Bool, true, false, List, [], ◌∷◌, ◌++◌, map, flat_map, length, Option, Some, None, inl, inr, sym, subst, ap, refl, ◌==◌, ◌≤◌}
+use Rattle.std.proofs.Common.{◌≡◌, ℕ, Bool, true, false, List, [], ◌∷◌, ◌++◌, map, flat_map, Some, inl, inr, sym, subst, refl, ◌==◌, ◌≤◌}
 use Rattle.std.specs.List.{range_with_len}
 use Rattle.tcs_terms.specs.declared.inputs.Input.{Input}
 use Rattle.tcs_terms.specs.declared.inputs.Input.TheVariants as inputs
@@ -12,7 +12,7 @@ use Rattle.tcs_laws.specs.Certification.{Tests}
 use Rattle.protocol.specs.Choices.{when}
 use Rattle.protocol.specs.Outcomes.{Out, to}
 use Rattle.protocol.specs.Pieces.{piece_count, piece_of}
-use Rattle.protocol.specs.Probing.{probe, ask_stage, tell_leader}
+use Rattle.protocol.specs.Probing.{ask_stage, tell_leader}
 use Rattle.protocol.specs.Records.{Coordinator, Stage, NodeRecord}
 use Rattle.protocol.specs.Records.Stage.{Idle, AskedLast, Probing, AskedLower, CasSent}
 use Rattle.protocol.specs.ShardRules.{state_to, least}
@@ -24,7 +24,7 @@ use Rattle.protocol_laws.specs.Effect.{Sees, Hears, Effect}
 use Rattle.protocol_laws.specs.Effect.Sees.{Replaces, Keeps as KeepsView}
 use Rattle.protocol_laws.specs.Effect.Hears.{Waits, ProbesLast, ProbesLower, IsDone}
 use Rattle.protocol_laws.specs.Effect.Effect.{Rests, Certifies, TakesOver, Nudges, Moves, Lowers, Reads, Asks, AnswersAgain, Appends, Votes, Acknowledges, Changes, Learns, Keeps, Accepts, Marks, Promises, Chooses, FindsLow, Leads, Follows, Gathers, FollowsPieces}
-use Rattle.protocol_laws.proofs.ConfigurationsSends.{is_plain, ArePlain, one-plain, append-plain, send_case-plain, resend-plain, ask_leader-plain, accept-plain, goes_on-plain, probe-plain, notices-plain}
+use Rattle.protocol_laws.proofs.ConfigurationsSends.{is_plain, ArePlain, send_case-plain, resend-plain, ask_leader-plain, accept-plain, goes_on-plain, probe-plain, notices-plain}
 
 -- What a node says with an input, after which it is `kept`: something plain; its state epoch, to a probe that it promises; a configuration
 -- that the input told; or a configuration that it proposes and keeps.

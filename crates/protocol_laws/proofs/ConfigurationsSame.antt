@@ -1,5 +1,5 @@
 -- What a node never changes: its name, its shard, and of which shards it has views.
-use Rattle.std.proofs.Common.{◌≡◌, ℕ, List, map, refl, ap, sym, ◌∙◌}
+use Rattle.std.proofs.Common.{◌≡◌, ℕ, List, map, refl, ap, ◌∙◌}
 use Rattle.tcs_terms.specs.declared.inputs.Input.{Input}
 use Rattle.tcs_terms.specs.declared.messages.Outgoing.{Outgoing}
 use Rattle.tcs_terms.specs.Places.{Membership}
@@ -7,7 +7,7 @@ use Rattle.tcs_laws.specs.Certification.{Tests}
 use Rattle.protocol.specs.Coordination.{change_view}
 use Rattle.protocol.specs.Outcomes.{Out}
 use Rattle.protocol.specs.Records.{Coordinator, NodeRecord}
-use Rattle.protocol_laws.specs.Effect.{Sees, GoesOn, Effect}
+use Rattle.protocol_laws.specs.Effect.{Sees, Effect}
 use Rattle.protocol_laws.specs.Effect.Sees.{Replaces, Keeps as KeepsView}
 use Rattle.protocol_laws.specs.Effect.Effect.{Rests, Certifies, TakesOver, Nudges, Moves, Lowers, Reads, Asks, AnswersAgain, Appends, Votes, Acknowledges, Changes, Learns, Keeps, Accepts, Marks, Promises, Chooses, FindsLow, Leads, Follows, Gathers, FollowsPieces}
 use Rattle.protocol_laws.proofs.ConfigurationsHad.{goes_on-views, replaced-shards, change_view-views}

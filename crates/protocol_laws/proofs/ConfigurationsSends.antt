@@ -1,21 +1,17 @@
 -- What nodes send about places: answers to probes, configurations that they were told, and those that they propose.
-use Rattle.std.proofs.Common.{◌≡◌, ℕ, Bool, true, false, List, [], ◌∷◌, ◌++◌, map, flat_map, filter, length, Option, Some, None, not, inl, inr, sym, subst, refl, ◌==◌, ◌≤◌}
+use Rattle.std.proofs.Common.{◌≡◌, ℕ, Bool, true, false, List, [], ◌∷◌, ◌++◌, map, flat_map, filter, length, Option, Some, None, not, inl, inr, sym, subst, refl}
 use Rattle.tcs_terms.specs.declared.ids.TxId.{TxId}
-use Rattle.tcs_terms.specs.declared.inputs.Input.{Input}
-use Rattle.tcs_terms.specs.declared.inputs.Input.TheVariants as inputs
 use Rattle.tcs_terms.specs.declared.messages.Message.{Message}
 use Rattle.tcs_terms.specs.declared.messages.Message.TheVariants.{Prepare, PrepareAck, Accept, AcceptAck, DecisionFor, Probe, ProbeAck, NewConfig, NewState, ConfigChange, Last, At, Cas, Stored, OutcomeOf, Refused, StatePiece}
 use Rattle.tcs_terms.specs.declared.messages.Outgoing.{Outgoing}
 use Rattle.tcs_terms.specs.declared.votes.Decision.{Decision}
 use Rattle.tcs_terms.specs.Places.{Membership, is_among}
 use Rattle.tcs_terms.specs.Preparations.{Preparation}
-use Rattle.tcs_laws.specs.Certification.{Tests}
 use Rattle.protocol.specs.Cases.{prepare, accept, send_part, send_case, tell_members, tell_decision, commits}
 use Rattle.protocol.specs.Coordination.{resend, ask_leader, has_part}
 use Rattle.protocol.specs.Outcomes.{Out, to}
-use Rattle.protocol.specs.Probing.{probe, ask_stage, tell_leader}
-use Rattle.protocol.specs.Records.{Part, Case, Coordinator, Stage}
-use Rattle.protocol.specs.Records.Stage.{Idle, AskedLast, Probing, AskedLower, CasSent}
+use Rattle.protocol.specs.Probing.{probe}
+use Rattle.protocol.specs.Records.{Part, Case, Coordinator}
 use Rattle.protocol.specs.Views.{view_of, followers}
 use Rattle.protocol.specs.Invariant.Configurations.{told_config}
 use Rattle.protocol.specs.Invariant.Time.{StandsIn}

@@ -1,6 +1,6 @@
 -- What the configuration service stores and tells in one event.
-use Rattle.std.proofs.Common.{◌≡◌, ℕ, zero, suc, ◌+◌, Bool, true, false, cond, List, [], ◌∷◌, ◌++◌, map, filter, Option, Some, None, ◌⊎◌, inl, inr, sym, ◌∙◌, subst, ap, refl, arith, ◌==◌, ◌≤◌, eqb-true, eq-eqb}
-use Rattle.std.proofs.lemmas.List.{map-append}
+use Rattle.std.proofs.Common.{◌≡◌, ℕ, zero, suc, ◌+◌, Bool, true, false, cond, List, [], ◌∷◌, ◌++◌, map, filter, Option, Some, None, ◌⊎◌, inl, inr, sym, ◌∙◌, subst, ap, refl, arith, ◌==◌, eqb-true}
+use Rattle.std.proofs.lemmas.List.{map-append, append-nil}
 use Rattle.std.proofs.lemmas.List.Elements.{filter-append}
 use Rattle.std.specs.List.{range_with_len, last_or}
 use Rattle.tcs_terms.specs.declared.messages.Message.{Message}
@@ -8,7 +8,7 @@ use Rattle.tcs_terms.specs.declared.messages.Message.TheVariants.{ConfigChange, 
 use Rattle.tcs_terms.specs.declared.messages.Outgoing.{Outgoing}
 use Rattle.tcs_terms.specs.Places.{Membership}
 use Rattle.protocol.specs.Outcomes.{Out, to}
-use Rattle.protocol.specs.Service.{last_config, last_epoch, tell_nodes}
+use Rattle.protocol.specs.Service.{tell_nodes}
 use Rattle.protocol.specs.Views.{epoch_of}
 use Rattle.protocol.specs.Invariant.Configurations.{told_config}
 use Rattle.protocol.specs.Invariant.Time.{StandsIn}
@@ -16,7 +16,7 @@ use Rattle.protocol.proofs.Lists.{StandsIn-append}
 use Rattle.protocol_laws.specs.Change.{Serves}
 use Rattle.protocol_laws.specs.Change.Serves.{HoldsBack, Tells, Stores}
 use Rattle.protocol_laws.proofs.ConfigurationsSends.{is_plain, notices-plain}
-use Rattle.protocol_laws.proofs.ConfigurationsHad.{StandsIn-left, StandsIn-right}
+use Rattle.protocol_laws.proofs.ConfigurationsLists.{StandsIn-left, StandsIn-right}
 
 -- the epochs of one shard's configurations are 1 to the last one
 abbrev pub EpochsFit : List Membership → Type 0
@@ -84,10 +84,6 @@ epochs-snoc cs c f e =
     let last : c.epoch ≡ epoch_of (last_or None (cs ++ c ∷ [])) = ap epoch_of (sym (last_or-snoc None cs c)) in
     map-append (λ d. d.epoch) cs (c ∷ []) ∙ ap (λ ms. ms ++ c.epoch ∷ []) f ∙ ap (λ m. range_with_len 1 k ++ m ∷ []) a ∙ sym (range-snoc 1 k) ∙ ap (λ m. range_with_len 1 m) (b ∙ last)
 
-append-nothing : {X : Type 0} (xs : List X) → xs ++ [] ≡ xs
-append-nothing [] = refl
-append-nothing (x ∷ xs) = ap (λ ys. x ∷ ys) (append-nothing xs)
-
 -- the epochs of each shard stay 1 to its last one
 pub service_epochs : (nodes : ℕ) (configs : List Membership) (from : ℕ) (message : Message) (out : Out (List Membership)) → Serves nodes configs from message out
     → (shard : ℕ) → EpochsFit (filter (λ c. c.shard == shard) configs) → EpochsFit (filter (λ c. c.shard == shard) out.kept)
@@ -100,4 +96,4 @@ service_epochs nodes configs from message out (Stores c last n l e) shard f =
     go true q =
         let m : last_or None (filter (λ d. d.shard == shard) configs) ≡ Some last = subst (λ k. last_or None (filter (λ d. d.shard == k) configs) ≡ Some last) (eqb-true c.shard shard q) l in
         epochs-snoc (filter (λ d. d.shard == shard) configs) c f (e ∙ ap (λ o. epoch_of o + 1) (sym m))
-    go false q = subst EpochsFit (sym (append-nothing (filter (λ d. d.shard == shard) configs))) f
+    go false q = subst EpochsFit (sym (append-nil (filter (λ d. d.shard == shard) configs))) f

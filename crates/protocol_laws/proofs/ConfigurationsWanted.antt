@@ -1,5 +1,5 @@
 -- The nodes that a prober wants, and those that it proposes, are nodes of the shard.
-use Rattle.std.proofs.Common.{◌≡◌, ℕ, Bool, true, false, cond, List, [], ◌∷◌, ◌++◌, filter, ◌⊎◌, inl, inr, sym, ◌∙◌, subst, ap, refl, ◌==◌, ◌≤◌, ◌&&◌, ◌||◌, nat_lt, eq-eqb, IsTrue}
+use Rattle.std.proofs.Common.{◌≡◌, ℕ, true, List, ◌∷◌, filter, ◌⊎◌, inl, inr, sym, subst, refl, nat_lt, IsTrue}
 use Rattle.std.specs.List.{list_all}
 use Rattle.tcs_terms.specs.declared.inputs.Input.{Input}
 use Rattle.tcs_terms.specs.declared.inputs.Input.TheVariants as inputs
@@ -10,40 +10,14 @@ use Rattle.tcs_laws.specs.Certification.{Tests}
 use Rattle.protocol.specs.Outcomes.{Out}
 use Rattle.protocol.specs.Probing.{joined, proposed}
 use Rattle.protocol.specs.Records.{Stage, NodeRecord}
-use Rattle.protocol.specs.Records.Stage.{Idle, AskedLast, Probing, AskedLower, CasSent}
-use Rattle.protocol.specs.Invariant.Configurations.{probed_configs, HasMembers, WantsNodes}
+use Rattle.protocol.specs.Records.Stage.{Probing}
+use Rattle.protocol.specs.Invariant.Configurations.{HasMembers, WantsNodes}
 use Rattle.protocol.specs.Invariant.Time.{StandsIn}
 use Rattle.protocol.proofs.Lists.{StandsIn-append, all-StandsIn, among-StandsIn}
 use Rattle.protocol_laws.specs.Effect.{Hears, Effect}
 use Rattle.protocol_laws.specs.Effect.Hears.{Waits, ProbesLast, ProbesLower, IsDone}
 use Rattle.protocol_laws.specs.Effect.Effect.{Rests, Certifies, TakesOver, Nudges, Moves, Lowers, Reads, Asks, AnswersAgain, Appends, Votes, Acknowledges, Changes, Learns, Keeps, Accepts, Marks, Promises, Chooses, FindsLow, Leads, Follows, Gathers, FollowsPieces}
-use Rattle.protocol_laws.proofs.ConfigurationsHad.{StandsIn-right}
-
--- what passes a filter stands in the list
-pub filter-StandsIn : {X : Type 0} (p : X → Bool) (xs : List X) (x : X) → StandsIn x (filter p xs) → StandsIn x xs
-filter-StandsIn p [] x s = s
-filter-StandsIn {X = X} p (y ∷ ys) x s = go (p y) s (filter-StandsIn p ys x)
-  where
-    go : (b : Bool) → StandsIn x (cond b (y ∷ filter p ys) (filter p ys)) → (StandsIn x (filter p ys) → StandsIn x ys) → StandsIn x (y ∷ ys)
-    go true (inl e) ih = inl e
-    go true (inr r) ih = inr (ih r)
-    go false r ih = inr (ih r)
-
-pub each-list_all : {X : Type 0} (p : X → Bool) (xs : List X) → ((x : X) → StandsIn x xs → p x ≡ true) → list_all p xs ≡ true
-each-list_all p [] h = refl
-each-list_all p (x ∷ xs) h =
-    let a : p x ≡ true = h x (inl refl) in
-    let b : list_all p xs ≡ true = each-list_all p xs (λ y s. h y (inr s)) in
-    ap (λ v. v && list_all p xs) a ∙ b
-
-pub StandsIn-among : (xs : List ℕ) (n : ℕ) → StandsIn n xs → is_among xs n ≡ true
-StandsIn-among [] n s = absurd s
-StandsIn-among (x ∷ xs) n (inl e) = ap (λ v. v || is_among xs n) (eq-eqb x n (sym e))
-StandsIn-among (x ∷ xs) n (inr s) = go (x == n) (StandsIn-among xs n s)
-  where
-    go : (b : Bool) → is_among xs n ≡ true → (b || is_among xs n) ≡ true
-    go true h = refl
-    go false h = h
+use Rattle.protocol_laws.proofs.ConfigurationsLists.{StandsIn-right, filter-StandsIn, each-list_all, StandsIn-among}
 
 -- the wanted nodes and one more
 joined-StandsIn : (node n : ℕ) (nodes : List ℕ) → StandsIn n (joined node nodes) → (n ≡ node) ⊎ StandsIn n nodes

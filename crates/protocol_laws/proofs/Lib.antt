@@ -3,6 +3,7 @@ pub mod ChangeOf
 pub mod OnwardOf
 pub mod After
 pub mod Lasting
+pub mod ConfigurationsLists
 pub mod ConfigurationsSends
 pub mod ConfigurationsSaid
 pub mod ConfigurationsHad

@@ -1,5 +1,5 @@
 -- One event keeps the answers to probes.
-use Rattle.std.proofs.Common.{◌≡◌, ℕ, ◌+◌, ◌<◌, ◌≤◌, true, None, Some, ◌⊎◌, inl, inr, sym, ◌∙◌, ap, subst, refl, arith, max}
+use Rattle.std.proofs.Common.{◌≡◌, ℕ, ◌<◌, ◌≤◌, true, Some, ◌⊎◌, inl, inr, sym, ◌∙◌, ap, subst, refl, arith}
 use Rattle.tcs_terms.specs.declared.inputs.Event.{Event}
 use Rattle.tcs_terms.specs.declared.messages.Message.{Message}
 use Rattle.tcs_terms.specs.declared.messages.Message.TheVariants.{ProbeAck}
@@ -13,9 +13,9 @@ use Rattle.protocol.specs.Invariant.Answers.{AnswerHolds, AnswersHold}
 use Rattle.protocol.specs.Invariant.Configurations.{ConfigurationsHold, told_config}
 use Rattle.protocol.specs.Invariant.Logs.{Reached}
 use Rattle.protocol.specs.Invariant.Promises.{PromisesHold, FitsRole}
-use Rattle.protocol.specs.Invariant.Time.{Moment, IsNode, WasSent, goes_to}
+use Rattle.protocol.specs.Invariant.Time.{Moment, IsNode, goes_to}
 use Rattle.protocol_laws.specs.Turn.{Turn, Grows, GrewTo, Onward}
-use Rattle.protocol_laws.proofs.Lasting.{one_node, IsIn, reached-back}
+use Rattle.protocol_laws.proofs.Lasting.{one_node, reached-back}
 use Rattle.protocol_laws.proofs.OnwardOf.{onward_of}
 use Rattle.protocol_laws.proofs.ConfigurationsSends.{is_plain}
 use Rattle.protocol_laws.proofs.ConfigurationsSaid.{Says}
@@ -50,8 +50,8 @@ answer-on setup t u from epoch state c p o a =
       between = λ q l m r. elim (reached-back t u q from o r) [
         | inl x ↦ a.between q l m x
         | inr x ↦ (let s : x.node ≡ g.new = one_node setup u x.node g.new c x.is g.is (x.named ∙ sym (g.grows.name ∙ a.named)) in
-          let e : g.new.state ≡ q = ap (λ n. n.state) (sym s) ∙ x.in_epoch in
-          apart q g.new after e l m)
+            let e : g.new.state ≡ q = ap (λ n. n.state) (sym s) ∙ x.in_epoch in
+            apart q g.new after e l m)
       ];
       after = after;
       fenced = λ f e. elim after [
@@ -68,8 +68,8 @@ answer-on setup t u from epoch state c p o a =
     apart q new (inr k) e l m = omega (arith, k, e, m)
 
 -- a new answer holds
-answer-new : (t u : Moment) (from epoch state : ℕ) (node kept : NodeRecord) → PromisesHold u → IsNode u kept → kept.name ≡ from → least node ≤ epoch → kept.state ≡ node.state → kept.promised ≡ epoch → state ≡ node.state → AnswerHolds u from epoch state
-answer-new t u from epoch state node kept p k n l s e m = record {
+answer-new : (u : Moment) (from epoch state : ℕ) (node kept : NodeRecord) → PromisesHold u → IsNode u kept → kept.name ≡ from → least node ≤ epoch → kept.state ≡ node.state → kept.promised ≡ epoch → state ≡ node.state → AnswerHolds u from epoch state
+answer-new u from epoch state node kept p k n l s e m = record {
   node = kept;
   is = k;
   named = n;
@@ -80,14 +80,14 @@ answer-new t u from epoch state node kept p k n l s e m = record {
   fenced = λ f x. s ∙ sym m;
 }
 
-said-answers : (t u : Moment) (from epoch state : ℕ) (node kept : NodeRecord) (input : _) (m : Message) → PromisesHold u → IsNode u kept → kept.name ≡ from → Says node kept input m → m ≡ ProbeAck epoch state → AnswerHolds u from epoch state
-said-answers t u from epoch state node kept input m p k n (Plainly w h) e = absurd (let x : is_plain (ProbeAck epoch state) ≡ true = subst (λ v. is_plain v ≡ true) e h in cc x)
-said-answers t u from epoch state node kept input m p k n (Answers f told i l s r) e = answer-new t u from epoch state node kept p k n (omega (arith, l, (let x : told ≡ epoch = cc e in x))) s (r ∙ (let x : told ≡ epoch = cc e in x)) (cc e)
-said-answers t u from epoch state node kept input m p k n (Tells w f heard c i h j) e = absurd (let x : told_config (ProbeAck epoch state) ≡ Some c = subst (λ v. told_config v ≡ Some c) e j in cc x)
-said-answers t u from epoch state node kept input m p k n (Proposes c h) e = absurd (cc e)
+said-answers : (u : Moment) (from epoch state : ℕ) (node kept : NodeRecord) (input : _) (m : Message) → PromisesHold u → IsNode u kept → kept.name ≡ from → Says node kept input m → m ≡ ProbeAck epoch state → AnswerHolds u from epoch state
+said-answers u from epoch state node kept input m p k n (Plainly w h) e = absurd (let x : is_plain (ProbeAck epoch state) ≡ true = subst (λ v. is_plain v ≡ true) e h in cc x)
+said-answers u from epoch state node kept input m p k n (Answers f told i l s r) e = answer-new u from epoch state node kept p k n (omega (arith, l, (let x : told ≡ epoch = cc e in x))) s (r ∙ (let x : told ≡ epoch = cc e in x)) (cc e)
+said-answers u from epoch state node kept input m p k n (Tells w f heard c i h j) e = absurd (let x : told_config (ProbeAck epoch state) ≡ Some c = subst (λ v. told_config v ≡ Some c) e j in cc x)
+said-answers u from epoch state node kept input m p k n (Proposes c h) e = absurd (cc e)
 
 how-answers : (t u : Moment) (from epoch state : ℕ) → PromisesHold u → SentHow t u from (ProbeAck epoch state) → AnswerHolds u from epoch state
-how-answers t u from epoch state p (ByNode node kept input n k f s w) = said-answers t u from epoch state node kept input (ProbeAck epoch state) p k (s ∙ f) w refl
+how-answers t u from epoch state p (ByNode node kept input n k f s w) = said-answers u from epoch state node kept input (ProbeAck epoch state) p k (s ∙ f) w refl
 how-answers t u from epoch state p (ByService w) = absurd (none w refl)
   where
     none : {m : Message} → ServiceSays u.now.configs m → m ≡ ProbeAck epoch state → ⊥
@@ -103,5 +103,5 @@ answers_kept tests setup t event h turn c p =
       each = λ from to epoch state s. elim (sent_how tests setup t event h turn.change from to (ProbeAck epoch state) s) [
         | inl q ↦ answer-on setup t u from epoch state c p o (turn.before.answers.each from to epoch state q)
         | inr q ↦ how-answers t u from epoch state p q
-      ]
+      ];
     }

@@ -1,8 +1,7 @@
 -- One event keeps the promises.
-use Rattle.std.proofs.Common.{◌≡◌, ℕ, ◌+◌, ◌<◌, ◌≤◌, true, List, [], ◌∷◌, ◌++◌, Some, ◌⊎◌, inl, inr, sym, ◌∙◌, ap, subst, refl, arith}
+use Rattle.std.proofs.Common.{◌≡◌, ℕ, ◌≤◌, true, ◌∷◌, ◌⊎◌, inl, inr, sym, ◌∙◌, ap, subst, refl, arith}
 use Rattle.tcs_terms.specs.declared.inputs.Event.{Event}
 use Rattle.tcs_terms.specs.declared.inputs.Input.{Input}
-use Rattle.tcs_terms.specs.declared.inputs.Input.TheVariants as inputs
 use Rattle.tcs_terms.specs.declared.messages.Message.TheVariants.{Accept, NewState, StatePiece}
 use Rattle.tcs_terms.specs.Events.{event_fits}
 use Rattle.tcs_terms.specs.Logs.{AreRows}
@@ -18,13 +17,13 @@ use Rattle.protocol.specs.Invariant.{InvariantHolds}
 use Rattle.protocol.specs.Invariant.Configurations.{ConfigurationsHold, HasMembers}
 use Rattle.protocol.specs.Invariant.Logs.{entries_of, Reached, Held}
 use Rattle.protocol.specs.Invariant.Promises.{PromisesHold, FitsRole, IsMemberAt}
-use Rattle.protocol.specs.Invariant.Time.{Moment, StandsIn, IsNode, IsStored, WasIn, WasSent, goes_to}
+use Rattle.protocol.specs.Invariant.Time.{Moment, StandsIn, IsNode, IsStored, WasIn, goes_to}
 use Rattle.protocol_laws.specs.Change.{Comes, Change}
 use Rattle.protocol_laws.specs.Change.Change.{Passes, Stops, Acts, AtService}
 use Rattle.protocol_laws.specs.Effect.{Effect}
 use Rattle.protocol_laws.specs.Turn.{Turn, Grows, GrewFrom, Onward}
 use Rattle.protocol_laws.proofs.After.{put_node-back}
-use Rattle.protocol_laws.proofs.Lasting.{one_node, IsIn, HoldsNow, reached-back, held-back}
+use Rattle.protocol_laws.proofs.Lasting.{one_node, reached-back, held-back}
 use Rattle.protocol_laws.proofs.OnwardOf.{onward_of}
 use Rattle.protocol_laws.proofs.ConfigurationsHad.{Heard}
 use Rattle.protocol_laws.proofs.ConfigurationsInputs.{delivered}
@@ -87,11 +86,11 @@ state-on old new g = elim g.state [ inl e ↦ omega (arith, e) | inr l ↦ omega
 reached_kept : (setup : Deployment) (t u : Moment) → ConfigurationsHold setup u → Onward t u → PromisesHold t → (node : NodeRecord) (epoch : ℕ) → IsNode u node → Reached u epoch node.name → epoch ≤ node.state
 reached_kept setup t u c o p node epoch n r = elim (reached-back t u epoch node.name o r) [
   | inl q ↦ (let g : GrewFrom t node = o.back node n in
-    let l : epoch ≤ g.old.state = p.reached g.old epoch g.is (subst (λ m. Reached t epoch m) g.grows.name q) in
-    omega (arith, l, state-on g.old node g.grows))
+      let l : epoch ≤ g.old.state = p.reached g.old epoch g.is (subst (λ m. Reached t epoch m) g.grows.name q) in
+      omega (arith, l, state-on g.old node g.grows))
   | inr q ↦ (let s : q.node ≡ node = one_node setup u q.node node c q.is n q.named in
-    let e : node.state ≡ epoch = ap (λ m. m.state) (sym s) ∙ q.in_epoch in
-    omega (arith, e))
+      let e : node.state ≡ epoch = ap (λ m. m.state) (sym s) ∙ q.in_epoch in
+      omega (arith, e))
 ]
 
 -- what a node held in its state epoch is in its rows

@@ -1,10 +1,9 @@
 -- Roles, membership and rows of a node after one event.
-use Rattle.std.proofs.Common.{◌≡◌, ℕ, zero, suc, ◌+◌, ◌<◌, ◌≤◌, Bool, true, false, cond, not, List, [], ◌∷◌, ◌++◌, Option, Some, None, ◌⊎◌, inl, inr, sym, ◌∙◌, ap, subst, refl, arith, ◌==◌, ◌&&◌, nat_lt, max, IsTrue}
+use Rattle.std.proofs.Common.{◌≡◌, ℕ, ◌≤◌, Bool, true, false, cond, not, List, Option, Some, None, inl, inr, sym, ◌∙◌, ap, subst, refl, arith, ◌==◌, nat_lt, IsTrue}
 use Rattle.tcs_terms.specs.declared.inputs.Input.{Input}
 use Rattle.tcs_terms.specs.declared.inputs.Input.TheVariants as inputs
 use Rattle.tcs_terms.specs.declared.logs.Row.{Row}
 use Rattle.tcs_terms.specs.declared.messages.Message.TheVariants.{Accept, NewConfig, NewState, StatePiece}
-use Rattle.tcs_terms.specs.declared.messages.Outgoing.{Outgoing}
 use Rattle.tcs_terms.specs.Logs.{AreRows}
 use Rattle.tcs_terms.specs.Places.{Membership, is_among}
 use Rattle.tcs_terms.specs.Preparations.{Preparation}
@@ -13,13 +12,12 @@ use Rattle.tcs_laws.specs.Certification.{Tests}
 use Rattle.tcs_terms.proofs.BoolLaws.{left_of}
 use Rattle.protocol.specs.Log.{row_of, mark_of}
 use Rattle.protocol.specs.Outcomes.{Out}
-use Rattle.protocol.specs.Pieces.{rows_of, gathered_from, with_one_more, gathering_for}
-use Rattle.protocol.specs.Records.{Role, Piece, Gathering, NodeRecord}
+use Rattle.protocol.specs.Pieces.{rows_of, gathered_from}
+use Rattle.protocol.specs.Records.{Role, Gathering, NodeRecord}
 use Rattle.protocol.specs.Records.Role.{Fenced, Leader, Follower}
-use Rattle.protocol.specs.ShardRules.{least}
 use Rattle.protocol.specs.Views.{is_follower}
 use Rattle.protocol.specs.Invariant.Configurations.{HasMembers}
-use Rattle.protocol.specs.Invariant.Promises.{IsOf, FitsRole, IsMemberAt}
+use Rattle.protocol.specs.Invariant.Promises.{FitsRole, IsMemberAt}
 use Rattle.protocol.specs.Invariant.Time.{Moment, StandsIn, IsStored}
 use Rattle.protocol.proofs.Lists.{among-StandsIn}
 use Rattle.protocol_laws.specs.Effect.{MayFollow, Effect}
@@ -80,8 +78,8 @@ follows-member u node kept c k m n s e = record {
 }
 
 -- who leads one is
-leads-member : (setup : Deployment) (u : Moment) (node : NodeRecord) (c : Membership) → IsStored u c → HasMembers setup c → c.leader ≡ node.name → StandsIn node.name c.members
-leads-member setup u node c k h e = subst (λ x. StandsIn x c.members) e (among-StandsIn c.members c.leader h.leader)
+leads-member : (setup : Deployment) (node : NodeRecord) (c : Membership) → HasMembers setup c → c.leader ≡ node.name → StandsIn node.name c.members
+leads-member setup node c h e = subst (λ x. StandsIn x c.members) e (among-StandsIn c.members c.leader h.leader)
 
 -- the node is a member at its state epoch
 pub member_kept : (setup : Deployment) (t u : Moment) (tests : Tests) (version : ℕ) (node : NodeRecord) (input : Input) (out : Out NodeRecord) → Effect tests version node input out
@@ -106,7 +104,7 @@ member_kept setup old new tests version node input out (Marks from epoch slot tx
 member_kept setup old new tests version node input out (Promises from epoch l) on known k some = member_as old new node _ on refl refl refl (k some)
 member_kept setup old new tests version node input out (Chooses from told shard want epoch probed low e a l) on known k some = member_as old new node _ on refl refl refl (k some)
 member_kept setup old new tests version node input out (FindsLow from told shard want epoch probed low e a l) on known k some = member_as old new node _ on refl refl refl (k some)
-member_kept setup old new tests version node input out (Leads from config q r p l) on known k some = let c : IsStored new config × HasMembers setup config = known config (record { from = from; message = NewConfig config; is = refl; told = refl }) in record { config = config; stored = c.0; shard = q; epoch = refl; member = leads-member setup new node config c.0 c.1 l }
+member_kept setup old new tests version node input out (Leads from config q r p l) on known k some = let c : IsStored new config × HasMembers setup config = known config (record { from = from; message = NewConfig config; is = refl; told = refl }) in record { config = config; stored = c.0; shard = q; epoch = refl; member = leads-member setup node config c.1 l }
 member_kept setup old new tests version node input out (Follows from config rows v m) on known k some = follows-member new node _ config (known config (record { from = from; message = NewState config rows; is = refl; told = refl })).0 m refl refl refl
 member_kept setup old new tests version node input out (Gathers from config number pieces rows gathering v m t g w) on known k some = member_as old new node _ on refl refl refl (k some)
 member_kept setup old new tests version node input out (FollowsPieces from config number pieces rows gathering v m t g w) on known k some = follows-member new node _ config (known config (record { from = from; message = StatePiece config number pieces rows; is = refl; told = refl })).0 m refl refl refl

@@ -1,7 +1,6 @@
 -- Entries in order: slots ascend within their range, transactions are distinct; and which lists stay so.
-use Rattle.std.proofs.Common.{◌≡◌, ℕ, zero, suc, ◌+◌, ◌<◌, ◌≤◌, Bool, true, false, cond, not, List, [], ◌∷◌, ◌++◌, map, filter, ◌==◌, ◌&&◌, ◌||◌, ◌⊎◌, inl, inr, sym, ◌∙◌, ap, subst, refl, arith, eqb-true, eq-eqb, ltb-true, lt-ltb, nat_le, nat_lt, IsTrue}
+use Rattle.std.proofs.Common.{◌≡◌, ℕ, ◌<◌, Bool, true, false, cond, not, List, [], ◌∷◌, ◌++◌, map, filter, ◌==◌, ◌&&◌, ◌||◌, inl, inr, sym, ◌∙◌, ap, subst, refl, arith, eqb-true, eq-eqb, ltb-true, lt-ltb, nat_le, nat_lt}
 use Rattle.std.specs.List.{list_all, list_any}
-use Rattle.std.proofs.lemmas.List.{map-append}
 use Rattle.tcs_terms.specs.declared.ids.TxId.{TxId}
 use Rattle.tcs_terms.specs.declared.limits.TheConstants.{MAX_SLOT}
 use Rattle.tcs_terms.specs.declared.logs.Row.{Row}
@@ -12,6 +11,7 @@ use Rattle.tcs_terms.proofs.BoolLaws.{both, left_of, right_of, not_false}
 use Rattle.protocol.specs.Invariant.Logs.{entries_of}
 use Rattle.protocol.specs.Invariant.Time.{StandsIn}
 use Rattle.protocol.proofs.Lists.{StandsIn-append}
+use Rattle.protocol_laws.proofs.ConfigurationsLists.{StandsIn-left}
 
 -- a slot in its range
 abbrev pub slot_fits : Preparation → Bool
@@ -71,16 +71,18 @@ rows-in_order [] a = tt
 rows-in_order (r ∷ rs) a =
     let slots : List ℕ = map (λ q. q.entry.slot) rs in
     let txns : List TxId = map (λ q. q.entry.txn) rs in
-    let differ : list_any (same_txn r.entry.txn) txns ≡ false = not_false (list_any (same_txn r.entry.txn) txns) (left_of (not (list_any (same_txn r.entry.txn) txns)) (txns_differ txns) a.txns_differ) in
-    (record {
-      fits = left_of (slot_fits r.entry) (list_all (λ q. slot_fits q.entry) rs) a.slots;
-      lower = λ y s. ascends-lower r.entry.slot slots a.slots_ascend y.slot (key-StandsIn (λ x. x.slot) rs y s);
-      apart = λ y s. differ-apart r.entry.txn txns differ y.txn (key-StandsIn (λ x. x.txn) rs y s);
-    }, rows-in_order rs (record {
-      slots_ascend = ascends-rest r.entry.slot slots a.slots_ascend;
-      slots = right_of (slot_fits r.entry) (list_all (λ q. slot_fits q.entry) rs) a.slots;
-      txns_differ = right_of (not (list_any (same_txn r.entry.txn) txns)) (txns_differ txns) a.txns_differ;
-    }))
+    let differ : list_any (same_txn r.entry.txn) txns ≡ false = not_false (list_any (same_txn r.entry.txn) txns) (left_of (not (list_any (same_txn r.entry.txn) txns)) (txns_differ txns) a.txns_differ) in (
+      record {
+        fits = left_of (slot_fits r.entry) (list_all (λ q. slot_fits q.entry) rs) a.slots;
+        lower = λ y s. ascends-lower r.entry.slot slots a.slots_ascend y.slot (key-StandsIn (λ x. x.slot) rs y s);
+        apart = λ y s. differ-apart r.entry.txn txns differ y.txn (key-StandsIn (λ x. x.txn) rs y s);
+      },
+      rows-in_order rs (record {
+        slots_ascend = ascends-rest r.entry.slot slots a.slots_ascend;
+        slots = right_of (slot_fits r.entry) (list_all (λ q. slot_fits q.entry) rs) a.slots;
+        txns_differ = right_of (not (list_any (same_txn r.entry.txn) txns)) (txns_differ txns) a.txns_differ;
+      }),
+    )
 
 apart-none : (t : TxId) (rows : List Row) → ((y : Preparation) → StandsIn y (entries_of rows) → t ≡ y.txn → ⊥) → list_any (same_txn t) (map (λ q. q.entry.txn) rows) ≡ false
 apart-none t [] h = refl
@@ -111,24 +113,22 @@ in_order-rows (r ∷ rs) o =
 -- one list after another
 pub in_order-join : (xs ys : List Preparation) → InOrder xs → InOrder ys → ((x y : Preparation) → StandsIn x xs → StandsIn y ys → (x.slot < y.slot) × (x.txn ≡ y.txn → ⊥)) → InOrder (xs ++ ys)
 in_order-join [] ys p q h = q
-in_order-join (x ∷ xs) ys p q h = (record {
-  fits = p.0.fits;
-  lower = λ y s. elim (StandsIn-append xs ys y s) [ inl a ↦ p.0.lower y a | inr b ↦ (h x y (inl refl) b).0 ];
-  apart = λ y s. elim (StandsIn-append xs ys y s) [ inl a ↦ p.0.apart y a | inr b ↦ (h x y (inl refl) b).1 ];
-}, in_order-join xs ys p.1 q (λ a b s r. h a b (inr s) r))
+in_order-join (x ∷ xs) ys p q h = (
+  record {
+    fits = p.0.fits;
+    lower = λ y s. elim (StandsIn-append xs ys y s) [ inl a ↦ p.0.lower y a | inr b ↦ (h x y (inl refl) b).0 ];
+    apart = λ y s. elim (StandsIn-append xs ys y s) [ inl a ↦ p.0.apart y a | inr b ↦ (h x y (inl refl) b).1 ];
+  },
+  in_order-join xs ys p.1 q (λ a b s r. h a b (inr s) r),
+)
 
 before-fewer : (x : Preparation) (xs ys : List Preparation) → ((y : Preparation) → StandsIn y ys → StandsIn y xs) → StandsBefore x xs → StandsBefore x ys
 before-fewer x xs ys h b = record { fits = b.fits; lower = λ y s. b.lower y (h y s); apart = λ y s. b.apart y (h y s) }
 
-stands-left : (xs ys : List Preparation) (y : Preparation) → StandsIn y xs → StandsIn y (xs ++ ys)
-stands-left [] ys y s = absurd s
-stands-left (x ∷ xs) ys y (inl e) = inl e
-stands-left (x ∷ xs) ys y (inr s) = inr (stands-left xs ys y s)
-
 -- the parts of a list
 pub in_order-left : (xs ys : List Preparation) → InOrder (xs ++ ys) → InOrder xs
 in_order-left [] ys o = tt
-in_order-left (x ∷ xs) ys o = (before-fewer x (xs ++ ys) xs (stands-left xs ys) o.0, in_order-left xs ys o.1)
+in_order-left (x ∷ xs) ys o = (before-fewer x (xs ++ ys) xs (StandsIn-left xs ys) o.0, in_order-left xs ys o.1)
 
 pub in_order-right : (xs ys : List Preparation) → InOrder (xs ++ ys) → InOrder ys
 in_order-right [] ys o = o

@@ -1,16 +1,14 @@
 -- The rows that a node gathers may stand in a log, piece by piece.
-use Rattle.std.proofs.Common.{◌≡◌, ℕ, ◌+◌, ◌<◌, Bool, true, false, cond, List, [], ◌∷◌, ◌++◌, map, filter, flat_map, take, drop, Option, Some, None, ◌==◌, ◌&&◌, ◌||◌, ◌⊎◌, inl, inr, sym, ◌∙◌, ap, subst, refl, arith, eqb-true, ltb-true, nat_le, nat_lt, ◌*◌, ◌-◌}
-use Rattle.std.specs.List.{list_all}
+use Rattle.std.proofs.Common.{◌≡◌, ℕ, ◌<◌, Bool, true, false, cond, List, [], ◌∷◌, ◌++◌, map, filter, take, drop, Option, Some, None, ◌==◌, ◌&&◌, ◌||◌, ◌⊎◌, inl, inr, sym, subst, refl, arith, eqb-true, ltb-true, nat_le, nat_lt, ◌*◌, ◌-◌}
 use Rattle.std.proofs.lemmas.List.{map-append, append-nil, take-append-drop}
 use Rattle.std.proofs.lemmas.Grind.{flat_map-append}
 use Rattle.std.specs.Cmp.Lexicographic.{pointwise}
 use Rattle.std.specs.Prelude.{nat_eq}
-use Rattle.tcs_terms.specs.declared.limits.TheConstants.{MAX_SLOT, MAX_PIECE_ROWS}
+use Rattle.tcs_terms.specs.declared.limits.TheConstants.{MAX_PIECE_ROWS}
 use Rattle.tcs_terms.specs.declared.logs.Row.{Row}
 use Rattle.tcs_terms.specs.Logs.{txns_differ, AreRows}
 use Rattle.tcs_terms.specs.Order.{ascends}
 use Rattle.tcs_terms.specs.Places.{Membership}
-use Rattle.tcs_terms.specs.Preparations.{Preparation}
 use Rattle.tcs_terms.proofs.BoolLaws.{left_of, right_of}
 use Rattle.protocol.specs.Pieces.{piece_of, is_kept, with_piece, rows_of, are_whole, fits, with_one_more, begun, is_gathering_of, takes_piece, gathering_for}
 use Rattle.protocol.specs.Records.{Piece, Gathering}
@@ -18,8 +16,8 @@ use Rattle.protocol.specs.Views.{same_config}
 use Rattle.protocol.specs.Invariant.Logs.{entries_of}
 use Rattle.protocol.specs.Invariant.Time.{StandsIn}
 use Rattle.protocol.proofs.Lists.{StandsIn-append, all-StandsIn}
-use Rattle.protocol_laws.proofs.ConfigurationsWanted.{each-list_all}
 use Rattle.protocol_laws.proofs.PromisesOrder.{slot_fits, InOrder, rows-in_order, in_order-rows, in_order-left, in_order-right}
+use Rattle.protocol_laws.proofs.ConfigurationsLists.{StandsIn-left, StandsIn-right, each-list_all}
 
 -- a part of rows that may stand in a log may stand in one
 pub piece-rows : (rows : List Row) (number : ℕ) → AreRows rows → AreRows (piece_of rows number)
@@ -27,8 +25,10 @@ piece-rows rows number a = take-rows MAX_PIECE_ROWS (drop (MAX_PIECE_ROWS * (num
   where
     parts : (n : ℕ) (xs : List Row) → AreRows xs → InOrder (entries_of (take n xs) ++ entries_of (drop n xs))
     parts n xs b = subst InOrder (map-append (λ r. r.entry) (take n xs) (drop n xs)) (subst (λ ys. InOrder (entries_of ys)) (sym (take-append-drop n xs)) (rows-in_order xs b))
+
     take-rows : (n : ℕ) (xs : List Row) → AreRows xs → AreRows (take n xs)
     take-rows n xs b = in_order-rows (take n xs) (in_order-left (entries_of (take n xs)) (entries_of (drop n xs)) (parts n xs b))
+
     drop-rows : (n : ℕ) (xs : List Row) → AreRows xs → AreRows (drop n xs)
     drop-rows n xs b = in_order-rows (drop n xs) (in_order-right (entries_of (take n xs)) (entries_of (drop n xs)) (parts n xs b))
 
@@ -36,16 +36,9 @@ filtered-rows : (test : Piece → Bool) (kept : List Piece) (r : Row) → Stands
 filtered-rows test [] r s = s
 filtered-rows test (p ∷ ps) r s = go (test p) s (filtered-rows test ps r)
   where
-    right : (xs ys : List Row) → StandsIn r ys → StandsIn r (xs ++ ys)
-    right [] ys q = q
-    right (x ∷ xs) ys q = inr (right xs ys q)
-    left : (xs ys : List Row) → StandsIn r xs → StandsIn r (xs ++ ys)
-    left [] ys q = absurd q
-    left (x ∷ xs) ys (inl e) = inl e
-    left (x ∷ xs) ys (inr q) = inr (left xs ys q)
     go : (b : Bool) → StandsIn r (rows_of (cond b (p ∷ filter test ps) (filter test ps))) → (StandsIn r (rows_of (filter test ps)) → StandsIn r (rows_of ps)) → StandsIn r (p.rows ++ rows_of ps)
-    go true q ih = elim (StandsIn-append p.rows (rows_of (filter test ps)) r q) [ inl a ↦ left p.rows (rows_of ps) a | inr b ↦ right p.rows (rows_of ps) (ih b) ]
-    go false q ih = right p.rows (rows_of ps) (ih q)
+    go true q ih = elim (StandsIn-append p.rows (rows_of (filter test ps)) r q) [ inl a ↦ StandsIn-left p.rows (rows_of ps) r a | inr b ↦ StandsIn-right p.rows (rows_of ps) r (ih b) ]
+    go false q ih = StandsIn-right p.rows (rows_of ps) r (ih q)
 
 -- a row of pieces with one more is of the pieces, or of that one
 more-rows : (kept : List Piece) (piece : Piece) (r : Row) → StandsIn r (rows_of (with_piece kept piece)) → StandsIn r (rows_of kept) ⊎ StandsIn r piece.rows
@@ -98,9 +91,11 @@ gathered-rows (Some g) config pieces piece t a h = go (is_gathering_of g config)
     into : (b : Bool) → is_kept g.kept piece.number ≡ b → (b || are_whole (rows_of (with_piece g.kept piece))) ≡ true → AreRows (rows_of (cond b g (record { config = g.config; pieces = g.pieces; kept = with_piece g.kept piece })).kept)
     into true e w = h g refl
     into false e w = whole-rows g.kept piece (h g refl) a w
+
     take : (b : Bool) → b ≡ false → (b || fits g pieces piece) ≡ true → fits g pieces piece ≡ true
     take true e k = absurd (cc e)
     take false e k = k
+
     go : (b : Bool) → is_gathering_of g config ≡ b → (nat_lt g.config.epoch config.epoch || (b && fits g pieces piece)) ≡ true → AreRows (rows_of (with_one_more (cond b g (begun config pieces)) piece).kept)
     go true e k =
         let f : fits g pieces piece ≡ true = take (nat_lt g.config.epoch config.epoch) (not-below g.config.epoch config.epoch (same_config-epoch g.config config e)) k in

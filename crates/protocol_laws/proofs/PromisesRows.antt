@@ -1,19 +1,18 @@
 -- What becomes of rows stays fit for a log: rows appended, put, marked, and gathered from pieces.
-use Rattle.std.proofs.Common.{◌≡◌, ℕ, zero, suc, ◌+◌, ◌<◌, ◌≤◌, Bool, true, false, cond, not, List, [], ◌∷◌, ◌++◌, map, filter, flat_map, find, Option, Some, None, is_some, ◌==◌, ◌&&◌, ◌||◌, ◌⊎◌, inl, inr, sym, ◌∙◌, ap, subst, refl, arith, eqb-true, eq-eqb, ltb-true, lt-ltb, leb-false, le-leb, nat_le, nat_lt, IsTrue}
-use Rattle.std.specs.List.{list_all, list_any, last_or}
+use Rattle.std.proofs.Common.{◌≡◌, ℕ, ◌+◌, ◌<◌, ◌≤◌, Bool, true, false, cond, not, List, [], ◌∷◌, ◌++◌, filter, find, Option, Some, None, is_some, ◌==◌, ◌&&◌, ◌||◌, inl, inr, sym, ◌∙◌, ap, subst, refl, arith, ltb-true, leb-false, le-leb, nat_le, nat_lt}
+use Rattle.std.specs.List.{last_or}
 use Rattle.std.proofs.lemmas.List.{map-append}
 use Rattle.tcs_terms.specs.declared.ids.TxId.{TxId}
 use Rattle.tcs_terms.specs.declared.limits.TheConstants.{MAX_SLOT}
 use Rattle.tcs_terms.specs.declared.logs.Mark.{Mark}
 use Rattle.tcs_terms.specs.declared.logs.Row.{Row}
-use Rattle.tcs_terms.specs.Logs.{same_txn, txns_differ, AreRows}
+use Rattle.tcs_terms.specs.Logs.{same_txn, AreRows}
 use Rattle.tcs_terms.specs.Preparations.{Preparation}
-use Rattle.tcs_terms.proofs.BoolLaws.{both, left_of, right_of, neither_left, neither_right}
+use Rattle.tcs_terms.proofs.BoolLaws.{both, neither_right}
 use Rattle.protocol.specs.Log.{row_of, row_at, last_slot, slot_or_zero, is_full, undecided, has_at, is_taken, accepted, put_entry, marked, set_mark}
 use Rattle.protocol.specs.Invariant.Logs.{entries_of}
 use Rattle.protocol.specs.Invariant.Time.{StandsIn}
-use Rattle.protocol.proofs.Lists.{StandsIn-append}
-use Rattle.protocol_laws.proofs.PromisesOrder.{slot_fits, StandsBefore, InOrder, same_txn-refl, rows-in_order, in_order-rows, in_order-join, in_order-filter, filtered-StandsIn, in_order-apart, in_order-fits}
+use Rattle.protocol_laws.proofs.PromisesOrder.{slot_fits, InOrder, same_txn-refl, rows-in_order, in_order-rows, in_order-join, in_order-filter, filtered-StandsIn, in_order-apart}
 
 -- none that is looked for in vain passes the test
 none-row : (test : Row → Bool) (rows : List Row) → find test rows ≡ None → (r : Row) → StandsIn r rows → test r ≡ false
@@ -35,11 +34,6 @@ pub has_row : (rows : List Row) (y : Preparation) → StandsIn y (entries_of row
 has_row [] y s = absurd s
 has_row (r ∷ rs) y (inl e) = record { row = r; there = inl refl; is = sym e }
 has_row (r ∷ rs) y (inr s) = let h : HasRow rs y = has_row rs y s in record { row = h.row; there = inr h.there; is = h.is }
-
-pub row-entry : (rows : List Row) (r : Row) → StandsIn r rows → StandsIn r.entry (entries_of rows)
-row-entry [] r s = absurd s
-row-entry (q ∷ qs) r (inl e) = inl (ap (λ m. m.entry) e)
-row-entry (q ∷ qs) r (inr s) = inr (row-entry qs r s)
 
 -- a transaction without a row is that of no entry
 pub no_row : (rows : List Row) (txn : TxId) → row_of rows txn ≡ None → (y : Preparation) → StandsIn y (entries_of rows) → y.txn ≡ txn → ⊥
@@ -106,11 +100,14 @@ put-rows rows x a n f =
     let low : Row → Bool = λ r. nat_lt r.entry.slot x.slot in
     let high : Row → Bool = λ r. nat_lt x.slot r.entry.slot in
     let o : InOrder (entries_of rows) = rows-in_order rows a in
-    let upper : InOrder (x ∷ entries_of (filter high rows)) = (record {
-      fits = f;
-      lower = λ y s. above x.slot rows y s;
-      apart = λ y s e. no_row rows x.txn n y (filtered-StandsIn high rows y s) (sym e);
-    }, in_order-filter high rows o) in
+    let upper : InOrder (x ∷ entries_of (filter high rows)) = (
+      record {
+        fits = f;
+        lower = λ y s. above x.slot rows y s;
+        apart = λ y s e. no_row rows x.txn n y (filtered-StandsIn high rows y s) (sym e);
+      },
+      in_order-filter high rows o,
+    ) in
     let all : InOrder (entries_of (filter low rows) ++ x ∷ entries_of (filter high rows)) = in_order-join (entries_of (filter low rows)) (x ∷ entries_of (filter high rows)) (in_order-filter low rows o) upper (go o) in
     in_order-rows (put_entry rows x) (subst InOrder (sym (map-append (λ r. r.entry) (filter low rows) (undecided x ∷ filter high rows))) all)
   where

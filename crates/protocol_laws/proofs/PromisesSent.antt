@@ -1,12 +1,11 @@
 -- Rows and entries that were sent may stand in a log.
-use Rattle.std.proofs.Common.{◌≡◌, ℕ, true, List, [], ◌∷◌, ◌++◌, ◌⊎◌, inl, inr, sym, ◌∙◌, ap, subst, refl}
+use Rattle.std.proofs.Common.{◌≡◌, ℕ, true, List, [], ◌∷◌, ◌⊎◌, inl, inr, sym, subst, refl}
 use Rattle.tcs_terms.specs.declared.logs.Row.{Row}
 use Rattle.tcs_terms.specs.declared.messages.Message.TheVariants.{Accept, NewState, StatePiece}
 use Rattle.tcs_terms.specs.Logs.{AreRows}
 use Rattle.tcs_terms.specs.Places.{Membership}
 use Rattle.tcs_terms.specs.Preparations.{Preparation}
 use Rattle.tcs_laws.specs.Certification.{Tests}
-use Rattle.protocol.specs.Pieces.{piece_of}
 use Rattle.protocol.specs.Records.{NodeRecord}
 use Rattle.protocol.specs.World.{World}
 use Rattle.protocol.specs.Invariant.Entries.{EntriesHold, ListedAt}
@@ -14,10 +13,10 @@ use Rattle.protocol.specs.Invariant.Logs.{entries_of, Held, BecameLeader, Initia
 use Rattle.protocol.specs.Invariant.Promises.{PromisesHold}
 use Rattle.protocol.specs.Invariant.Time.{Moment, worlds, StandsIn, IsNode, WasSent}
 use Rattle.protocol.specs.Invariant.Transfer.{TransferHolds, IsSentInPieces}
-use Rattle.protocol_laws.proofs.ConfigurationsHad.{StandsIn-right}
 use Rattle.protocol_laws.proofs.PromisesOrder.{slot_fits, InOrder, rows-in_order, in_order-rows, in_order-fits}
 use Rattle.protocol_laws.proofs.PromisesPieces.{piece-rows}
 use Rattle.protocol_laws.proofs.PromisesRows.{same_entries-rows}
+use Rattle.protocol_laws.proofs.ConfigurationsLists.{StandsIn-right}
 
 -- the rows of any node, now or before
 pub past-rows : (t : Moment) → PromisesHold t → (w : World) (node : NodeRecord) → StandsIn w (worlds t) → StandsIn node w.nodes → AreRows node.rows
