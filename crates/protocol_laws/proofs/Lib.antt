@@ -1,3 +1,5 @@
+pub mod Guards
+pub mod EffectsOfShardRules
 pub mod EffectOf
 pub mod ChangeOf
 pub mod OnwardOf
