@@ -1,5 +1,5 @@
 -- How a rule is read backwards: by cases on its guards, and by what a rule that does not act comes to.
-use Rattle.std.proofs.Common.{◌≡◌, ℕ, Bool, true, false, not, List, [], ◌∷◌, ◌++◌, Option, Some, None, refl}
+use Rattle.std.proofs.Common.{◌≡◌, ℕ, Bool, true, false, not, List, [], ◌∷◌, ◌++◌, Option, Some, None, is_none, subst, refl}
 use Rattle.tcs_terms.specs.declared.inputs.Handled.{Handled}
 use Rattle.tcs_terms.specs.declared.inputs.Handled.TheVariants.{Acted, Stale, Held, Full}
 use Rattle.tcs_terms.specs.declared.inputs.Input.{Input}
@@ -12,7 +12,8 @@ use Rattle.tcs_laws.specs.Certification.{Tests}
 use Rattle.protocol.specs.Choices.{when}
 use Rattle.protocol.specs.Notices.{notice_of, with_notice}
 use Rattle.protocol.specs.Outcomes.{Out, tells, rests}
-use Rattle.protocol.specs.Records.{NodeRecord}
+use Rattle.protocol.specs.ClientRules.{coordinates, probes}
+use Rattle.protocol.specs.Records.{Coordinator, Stage, NodeRecord}
 use Rattle.protocol.specs.Table.{noticed}
 use Rattle.protocol_laws.specs.Effect.{AreNotices, Silent, Notice, Effect, Rests}
 
@@ -30,6 +31,10 @@ by_option P f (Some x) g h = h x refl
 pub not-true : (b : Bool) → not b ≡ true → b ≡ false
 not-true true h = absurd (cc h)
 not-true false h = refl
+
+pub is_none-None : {X : Type 0} (o : Option X) → is_none o ≡ true → o ≡ None
+is_none-None None h = refl
+is_none-None (Some x) h = absurd (cc h)
 
 -- what a node does with a message whose sender hears where it does not act
 abbrev pub Receives : Tests → ℕ → NodeRecord → ℕ → ℕ → Message → Out NodeRecord → Type 0
@@ -58,3 +63,20 @@ pub rests_noticed : (tests : Tests) (version : ℕ) (node : NodeRecord) (from ki
 unfolding with_notice
 rests_noticed tests version node from kind message answer =
     Rests (inputs.Deliver from message) answer (notice_of answer from kind node.promised ++ []) (are_notices answer from kind node.promised)
+
+-- the coordinator's rule does not act
+pub coordinator_rests : (tests : Tests) (version : ℕ) (node : NodeRecord) (from kind : ℕ) (message : Message) (answer : Handled)
+    → Receives tests version node from kind message (coordinates node (rests answer node.coordinator))
+coordinator_rests tests version node from kind message answer = rests_noticed tests version node from kind message answer
+
+-- the prober's rule does not act, whatever its stage is
+pub prober_rests : (tests : Tests) (version : ℕ) (node : NodeRecord) (input : Input) (answer : Handled) (stage : Stage) → node.prober ≡ stage
+    → Effect tests version node input (probes node (rests answer stage))
+prober_rests tests version node input answer stage e =
+    subst (λ s. Effect tests version node input (probes node (rests answer s))) e (rests_quietly tests version node input answer)
+
+-- the same, with a notice
+pub prober_rests_noticed : (tests : Tests) (version : ℕ) (node : NodeRecord) (from kind : ℕ) (message : Message) (answer : Handled) (stage : Stage) → node.prober ≡ stage
+    → Receives tests version node from kind message (probes node (rests answer stage))
+prober_rests_noticed tests version node from kind message answer stage e =
+    subst (λ s. Receives tests version node from kind message (probes node (rests answer s))) e (rests_noticed tests version node from kind message answer)

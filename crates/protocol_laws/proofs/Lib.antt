@@ -1,6 +1,11 @@
 pub mod Guards
 pub mod EffectsOfShardRules
+pub mod EffectsOfClients
+pub mod EffectsOfCoordination
+pub mod EffectsOfProbing
+pub mod EffectsOfStored
 pub mod EffectOf
+pub mod ServesOf
 pub mod ChangeOf
 pub mod OnwardOf
 pub mod After
