@@ -34,9 +34,17 @@ filter-StandsIn {X = X} p (y ∷ ys) x s = go (p y) s (filter-StandsIn p ys x)
     go true (inr r) ih = inr (ih r)
     go false r ih = inr (ih r)
 
--- the last element of a list stands in it
-last-StandsIn : {X : Type 0} (xs : List X) (x : X) → last_or None xs ≡ Some x → StandsIn x xs
-last-StandsIn xs x h = ?
+-- the last element of a list stands in it, or is what was given for an empty one
+last_or-StandsIn : {X : Type 0} (o : Option X) (xs : List X) (x : X) → last_or o xs ≡ Some x → (o ≡ Some x) ⊎ StandsIn x xs
+last_or-StandsIn o [] x h = inl h
+last_or-StandsIn o (y ∷ ys) x h = elim (last_or-StandsIn (Some y) ys x h) [ inl e ↦ inr (inl (cc e)) | inr s ↦ inr (inr s) ]
+
+-- a shard's last configuration is stored
+last_config-StandsIn : (configs : List Membership) (shard : ℕ) (c : Membership) → last_config configs shard ≡ Some c → StandsIn c configs
+last_config-StandsIn configs shard c h = elim (last_or-StandsIn None (filter (λ d. d.shard == shard) configs) c h) [
+  | inl e ↦ absurd (cc e)
+  | inr s ↦ filter-StandsIn (λ d. d.shard == shard) configs c s
+]
 
 -- STORED of a configuration that is stored
 answer_serves : (nodes : ℕ) (configs : List Membership) (from : ℕ) (message : Message) (kind mark : ℕ) (o : Option Membership) → ((c : Membership) → o ≡ Some c → StandsIn c configs)
@@ -66,7 +74,7 @@ pub serves_of : (nodes : ℕ) (configs : List Membership) (from : ℕ) (message 
 unfolding serve
 serves_of nodes configs from (Last shard) =
     answer_serves nodes configs from (Last shard) 11 0 (last_config configs shard)
-    (λ c e. filter-StandsIn (λ d. d.shard == shard) configs c (last-StandsIn (filter (λ d. d.shard == shard) configs) c e))
+    (λ c e. last_config-StandsIn configs shard c e)
 serves_of nodes configs from (At shard epoch) =
     answer_serves nodes configs from (At shard epoch) 12 (last_epoch configs shard) (config_at configs shard epoch)
     (λ c e. (find-StandsIn (λ d. (d.shard == shard) && (d.epoch == epoch)) configs c e).0)
