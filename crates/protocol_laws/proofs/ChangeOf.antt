@@ -16,16 +16,11 @@ use Rattle.protocol.proofs.Lists.{find-StandsIn}
 use Rattle.protocol_laws.specs.Change.{Comes, ByCall, ByMessage, Change, Passes, Stops, Acts, AtService}
 use Rattle.protocol_laws.proofs.EffectOf.{effect_of}
 use Rattle.protocol_laws.proofs.Guards.{by_guard, by_option}
+use Rattle.protocol_laws.proofs.Stands.{slice_get-StandsIn}
 use Rattle.protocol_laws.proofs.ServesOf.{serves_of}
 
--- an element that is got from a place stands in the list
-slice_get-StandsIn : {X : Type 0} (xs : List X) (i : ℕ) (x : X) → slice_get xs i ≡ Some x → StandsIn x xs
-slice_get-StandsIn [] i x h = absurd (cc h)
-slice_get-StandsIn (y ∷ ys) zero x h = inl (cc h)
-slice_get-StandsIn (y ∷ ys) (suc i) x h = inr (slice_get-StandsIn ys i x h)
-
 -- a message that has a number was sent
-message_of-StandsIn : (messages : List Sent) (number : ℕ) (sent : Sent) → message_of messages number ≡ Some sent → StandsIn sent messages
+pub message_of-StandsIn : (messages : List Sent) (number : ℕ) (sent : Sent) → message_of messages number ≡ Some sent → StandsIn sent messages
 message_of-StandsIn messages number sent h = go (number == 0) h
   where
     go : (b : Bool) → cond b None (slice_get messages (number - 1)) ≡ Some sent → StandsIn sent messages

@@ -20,7 +20,7 @@ use Rattle.protocol.specs.Records.{Part, Case, Coordinator, NodeRecord}
 use Rattle.protocol.specs.Table.{noticed, on_outcome}
 use Rattle.protocol.specs.Views.{view_of, view_epoch, is_follower}
 use Rattle.protocol_laws.specs.Effect.{Effect, with_coordinator, OpenPart, GoesOn, Waiting, Decides, Votes, Acknowledges, Changes, Keeps}
-use Rattle.protocol_laws.proofs.Guards.{by_guard, by_option, Receives, no_notice, rests_quietly, coordinator_rests}
+use Rattle.protocol_laws.proofs.Guards.{by_guard, by_option, Receives, no_notice, rests_quietly, rests_noticed}
 
 check_decision-GoesOn : (c : Coordinator) (txn : TxId) (case : Case) (sends : List Outgoing) → GoesOn c txn case sends (check_decision c txn case sends)
 unfolding check_decision
@@ -40,7 +40,7 @@ prepare_ack_effect tests version node from shard epoch entry =
     let message : Message = PrepareAck shard epoch entry in
     let P : Out Coordinator → Type 0 = λ out. Receives tests version node from 2 message (coordinates node out) in
     let E : Out NodeRecord → Type 0 = Effect tests version node (inputs.Deliver from message) in
-    let none_there : (mark : ℕ) → P (rests (refusal epoch mark) c) = λ mark. coordinator_rests tests version node from 2 message (refusal epoch mark) in
+    let none_there : (mark : ℕ) → P (rests (refusal epoch mark) c) = λ mark. rests_noticed tests version node from 2 message (refusal epoch mark) in
     by_option P (in_case c epoch shard (prepare_ack_in c from epoch entry)) (case_of c entry.txn) (λ none. none_there (view_epoch c.views shard))
     (λ case opened. by_option P (in_part c epoch shard (prepare_ack_in c from epoch entry case)) (part_of case.parts shard) (λ none. none_there (view_epoch c.views shard))
     (λ part has. by_option P (in_view c epoch (prepare_ack_in c from epoch entry case part)) (view_of c.views shard) (λ none. none_there 0)
@@ -63,7 +63,7 @@ accept_ack_effect tests version node from shard epoch slot txn =
     let message : Message = AcceptAck shard epoch slot txn in
     let P : Out Coordinator → Type 0 = λ out. Receives tests version node from 4 message (coordinates node out) in
     let E : Out NodeRecord → Type 0 = Effect tests version node (inputs.Deliver from message) in
-    let none_there : (mark : ℕ) → P (rests (refusal epoch mark) c) = λ mark. coordinator_rests tests version node from 4 message (refusal epoch mark) in
+    let none_there : (mark : ℕ) → P (rests (refusal epoch mark) c) = λ mark. rests_noticed tests version node from 4 message (refusal epoch mark) in
     by_option P (in_case c epoch shard (accept_ack_in c from epoch slot txn)) (case_of c txn) (λ none. none_there (view_epoch c.views shard))
     (λ case opened. by_option P (in_part c epoch shard (accept_ack_in c from epoch slot txn case)) (part_of case.parts shard) (λ none. none_there (view_epoch c.views shard))
     (λ part has. by_option P (in_view c epoch (accept_ack_in c from epoch slot txn case part)) (view_of c.views shard) (λ none. none_there 0)

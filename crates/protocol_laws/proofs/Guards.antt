@@ -12,8 +12,8 @@ use Rattle.tcs_laws.specs.Certification.{Tests}
 use Rattle.protocol.specs.Choices.{when}
 use Rattle.protocol.specs.Notices.{notice_of, with_notice}
 use Rattle.protocol.specs.Outcomes.{Out, tells, rests}
-use Rattle.protocol.specs.ClientRules.{coordinates, probes}
-use Rattle.protocol.specs.Records.{Coordinator, Stage, NodeRecord}
+use Rattle.protocol.specs.ClientRules.{probes}
+use Rattle.protocol.specs.Records.{Stage, NodeRecord}
 use Rattle.protocol.specs.Table.{noticed}
 use Rattle.protocol_laws.specs.Effect.{AreNotices, Silent, Notice, Effect, Rests}
 
@@ -63,11 +63,6 @@ pub rests_noticed : (tests : Tests) (version : ℕ) (node : NodeRecord) (from ki
 unfolding with_notice
 rests_noticed tests version node from kind message answer =
     Rests (inputs.Deliver from message) answer (notice_of answer from kind node.promised ++ []) (are_notices answer from kind node.promised)
-
--- the coordinator's rule does not act
-pub coordinator_rests : (tests : Tests) (version : ℕ) (node : NodeRecord) (from kind : ℕ) (message : Message) (answer : Handled)
-    → Receives tests version node from kind message (coordinates node (rests answer node.coordinator))
-coordinator_rests tests version node from kind message answer = rests_noticed tests version node from kind message answer
 
 -- the prober's rule does not act, whatever its stage is
 pub prober_rests : (tests : Tests) (version : ℕ) (node : NodeRecord) (input : Input) (answer : Handled) (stage : Stage) → node.prober ≡ stage

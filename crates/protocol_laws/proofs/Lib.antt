@@ -1,4 +1,5 @@
 pub mod Guards
+pub mod Stands
 pub mod EffectsOfShardRules
 pub mod EffectsOfClients
 pub mod EffectsOfCoordination

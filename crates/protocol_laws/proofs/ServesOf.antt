@@ -13,6 +13,7 @@ use Rattle.protocol.specs.Service.{last_config, config_at, last_epoch, holds_bac
 use Rattle.protocol.proofs.Lists.{find-StandsIn}
 use Rattle.protocol_laws.specs.Change.{Serves, HoldsBack, Tells, Stores}
 use Rattle.protocol_laws.specs.Effect.{Silent}
+use Rattle.protocol_laws.proofs.Stands.{filter-StandsIn, last_or-StandsIn}
 use Rattle.protocol_laws.proofs.Guards.{by_guard, by_option, no_notice, are_notices}
 
 -- a message that the service holds back
@@ -24,23 +25,8 @@ holds_noticed : (nodes : ℕ) (configs : List Membership) (from : ℕ) (message 
 unfolding with_notice
 holds_noticed nodes configs from message kind mark = HoldsBack message (Held mark) (notice_of (Held mark) from kind 0 ++ []) (are_notices (Held mark) from kind 0)
 
--- what stands in a part of a list stands in the list
-filter-StandsIn : {X : Type 0} (p : X → Bool) (xs : List X) (x : X) → StandsIn x (filter p xs) → StandsIn x xs
-filter-StandsIn p [] x s = s
-filter-StandsIn {X = X} p (y ∷ ys) x s = go (p y) s (filter-StandsIn p ys x)
-  where
-    go : (b : Bool) → StandsIn x (cond b (y ∷ filter p ys) (filter p ys)) → (StandsIn x (filter p ys) → StandsIn x ys) → StandsIn x (y ∷ ys)
-    go true (inl e) ih = inl e
-    go true (inr r) ih = inr (ih r)
-    go false r ih = inr (ih r)
-
--- the last element of a list stands in it, or is what was given for an empty one
-last_or-StandsIn : {X : Type 0} (o : Option X) (xs : List X) (x : X) → last_or o xs ≡ Some x → (o ≡ Some x) ⊎ StandsIn x xs
-last_or-StandsIn o [] x h = inl h
-last_or-StandsIn o (y ∷ ys) x h = elim (last_or-StandsIn (Some y) ys x h) [ inl e ↦ inr (inl (cc e)) | inr s ↦ inr (inr s) ]
-
 -- a shard's last configuration is stored
-last_config-StandsIn : (configs : List Membership) (shard : ℕ) (c : Membership) → last_config configs shard ≡ Some c → StandsIn c configs
+pub last_config-StandsIn : (configs : List Membership) (shard : ℕ) (c : Membership) → last_config configs shard ≡ Some c → StandsIn c configs
 last_config-StandsIn configs shard c h = elim (last_or-StandsIn None (filter (λ d. d.shard == shard) configs) c h) [
   | inl e ↦ absurd (cc e)
   | inr s ↦ filter-StandsIn (λ d. d.shard == shard) configs c s
