@@ -1,3 +1,4 @@
+pub mod Standing
 pub mod EffectOf
 pub mod ChangeOf
 pub mod OnwardOf
