@@ -1,4 +1,5 @@
 pub mod Standing
+pub mod Numbered
 pub mod EffectOf
 pub mod ChangeOf
 pub mod OnwardOf
