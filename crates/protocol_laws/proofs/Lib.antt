@@ -1,5 +1,8 @@
 pub mod Standing
 pub mod Numbered
+pub mod EntriesKept
+pub mod GrowsOf
+pub mod Stored
 pub mod EffectOf
 pub mod ChangeOf
 pub mod OnwardOf

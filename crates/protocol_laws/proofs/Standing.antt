@@ -1,5 +1,5 @@
 -- Lemmas on what stands in joined, mapped and filtered lists.
-use Rattle.std.proofs.Common.{◌≡◌, Bool, true, false, cond, List, [], ◌∷◌, ◌++◌, map, filter, find, Some, None, ◌⊎◌, inl, inr, ap, refl}
+use Rattle.std.proofs.Common.{◌≡◌, Bool, true, false, cond, List, [], ◌∷◌, ◌++◌, map, filter, find, Some, None, inl, inr, ap, refl}
 use Rattle.protocol.specs.Invariant.Time.{StandsIn}
 
 -- what stands in a list stands in it joined with another one
