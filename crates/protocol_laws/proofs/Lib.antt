@@ -5,6 +5,11 @@ pub mod EffectsOfClients
 pub mod EffectsOfCoordination
 pub mod EffectsOfProbing
 pub mod EffectsOfStored
+pub mod Standing
+pub mod Numbered
+pub mod EntriesKept
+pub mod GrowsOf
+pub mod Stored
 pub mod EffectOf
 pub mod ServesOf
 pub mod ChangeOf
