@@ -5,3 +5,4 @@ pub mod ChangeOf
 pub mod OnwardOf
 pub mod After
 pub mod Lasting
+pub mod TransferEvents
