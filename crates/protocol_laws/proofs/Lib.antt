@@ -6,3 +6,4 @@ pub mod OnwardOf
 pub mod After
 pub mod Lasting
 pub mod TransferEvents
+pub mod TransferConfigs
