@@ -7,3 +7,4 @@ pub mod After
 pub mod Lasting
 pub mod TransferEvents
 pub mod TransferConfigs
+pub mod TransferPieces
