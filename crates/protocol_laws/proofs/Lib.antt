@@ -19,3 +19,6 @@ pub mod Lasting
 pub mod ConfigurationsSends
 pub mod ConfigurationsSaid
 pub mod ConfigurationsHad
+pub mod TransferEvents
+pub mod TransferConfigs
+pub mod TransferPieces
