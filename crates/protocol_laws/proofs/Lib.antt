@@ -3,3 +3,7 @@ pub mod ChangeOf
 pub mod OnwardOf
 pub mod After
 pub mod Lasting
+pub mod TransactionsLists
+pub mod TransactionsLast
+pub mod TransactionsPlaces
+pub mod TransactionsNotes
