@@ -6,4 +6,5 @@ pub mod Lasting
 pub mod TransactionsLists
 pub mod TransactionsLast
 pub mod TransactionsPlaces
+pub mod TransactionsCame
 pub mod TransactionsNotes
