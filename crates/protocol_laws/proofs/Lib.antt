@@ -22,3 +22,8 @@ pub mod ConfigurationsHad
 pub mod TransferEvents
 pub mod TransferConfigs
 pub mod TransferPieces
+pub mod TransactionsLists
+pub mod TransactionsLast
+pub mod TransactionsPlaces
+pub mod TransactionsCame
+pub mod TransactionsNotes
