@@ -27,3 +27,5 @@ pub mod TransactionsLast
 pub mod TransactionsPlaces
 pub mod TransactionsCame
 pub mod TransactionsNotes
+pub mod Kept
+pub mod RunInduction

@@ -1,3 +1,4 @@
 pub mod Effect
 pub mod Change
 pub mod Turn
+pub mod Runs

@@ -1,4 +1,5 @@
 //! What holds of every run of the protocol.
 #![tactic(auto)]
 
+pub mod invariant;
 pub mod steps;
