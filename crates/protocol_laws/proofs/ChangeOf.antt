@@ -1,5 +1,5 @@
 -- Every event is one of the changes.
-use Rattle.std.proofs.Common.{◌≡◌, ℕ, zero, suc, ◌-◌, ◌==◌, Bool, true, false, cond, List, [], ◌∷◌, length, Option, Some, None, slice_get, inl, inr, sym, ap, refl, eqb-true}
+use Rattle.std.proofs.Common.{◌≡◌, ℕ, ◌-◌, ◌==◌, Bool, true, false, cond, List, length, Some, None, slice_get, ap, refl, eqb-true}
 use Rattle.tcs_terms.specs.declared.inputs.Event.{Event}
 use Rattle.tcs_terms.specs.declared.inputs.Event.TheVariants.{Call, DeliverNumber, Stop}
 use Rattle.tcs_terms.specs.declared.inputs.Input.{Input}
@@ -8,7 +8,6 @@ use Rattle.tcs_terms.specs.declared.inputs.Result1.TheVariants.{Gone, Unsent}
 use Rattle.tcs_terms.specs.Places.{is_among}
 use Rattle.tcs_laws.specs.Certification.{Tests}
 use Rattle.protocol.specs.Invariant.Time.{StandsIn}
-use Rattle.protocol.specs.Records.{NodeRecord}
 use Rattle.protocol.specs.Service.{serve}
 use Rattle.protocol.specs.Table.{step}
 use Rattle.protocol.specs.World.{World, Sent, Happening, node_of, node_takes, give, deliver, deliver_if_sent, message_of, world_step}
@@ -35,9 +34,9 @@ give_change tests version w event name input comes =
     by_guard P (is_among w.stopped name)
     (λ gone. Passes event Gone refl)
     (λ runs. by_option P (node_takes tests version w name input) (node_of w.nodes name)
-        (λ none. Passes event Gone refl)
-        (λ node some. let p = find-StandsIn (λ n. n.name == name) w.nodes node some in
-            Acts event name node input (step tests version node input) comes some p.0 (eqb-true node.name name p.1) runs (effect_of tests version node input)))
+    (λ none. Passes event Gone refl)
+    (λ node some. let p = find-StandsIn (λ n. n.name == name) w.nodes node some in
+    Acts event name node input (step tests version node input) comes some p.0 (eqb-true node.name name p.1) runs (effect_of tests version node input)))
 
 deliver_change : (tests : Tests) (version : ℕ) (w : World) (number : ℕ) (sent : Sent) → message_of w.messages number ≡ Some sent
     → Change tests version w (DeliverNumber number) (deliver tests version w sent)
@@ -46,8 +45,8 @@ deliver_change tests version w number sent some =
     let stands : StandsIn sent w.messages = message_of-StandsIn w.messages number sent some in
     by_guard (Change tests version w (DeliverNumber number)) (sent.to == 0)
     (λ e. AtService number sent.from sent.message sent (serve (length w.nodes) w.configs sent.from sent.message)
-        (ap (λ n. record { from = sent.from; to = n; message = sent.message }) (eqb-true sent.to 0 e)) some stands
-        (serves_of (length w.nodes) w.configs sent.from sent.message))
+    (ap (λ n. record { from = sent.from; to = n; message = sent.message }) (eqb-true sent.to 0 e)) some stands
+    (serves_of (length w.nodes) w.configs sent.from sent.message))
     (λ e. give_change tests version w (DeliverNumber number) sent.to (inputs.Deliver sent.from sent.message) (ByMessage number sent.from sent.message sent refl some stands))
 
 pub change_of : (tests : Tests) (version : ℕ) (w : World) (event : Event) → Change tests version w event (world_step tests version w event)

@@ -1,5 +1,5 @@
 -- The rules for what clients ask, read backwards.
-use Rattle.std.proofs.Common.{◌≡◌, ℕ, Bool, true, false, not, List, [], ◌∷◌, length, Option, Some, None, is_none, ◌&&◌, ◌||◌, ◌<◌, subst, refl, leb-true, ltb-true, nat_le, nat_lt}
+use Rattle.std.proofs.Common.{◌≡◌, ℕ, List, length, Some, None, is_none, ◌&&◌, refl, leb-true, ltb-true, nat_le, nat_lt}
 use Rattle.std.proofs.lemmas.Bool.{and_parts}
 use Rattle.tcs_terms.specs.declared.limits.TheConstants.{MAX_SEQUENCE}
 use Rattle.tcs_terms.specs.declared.ids.TxId.{TxId}
@@ -9,10 +9,10 @@ use Rattle.tcs_terms.specs.Payloads.{Accesses}
 use Rattle.tcs_terms.specs.Shards.{shards_of, lies_in}
 use Rattle.tcs_laws.specs.Certification.{Tests}
 use Rattle.protocol.specs.Cases.{new_case}
-use Rattle.protocol.specs.ClientRules.{probes, next_txn, is_undecided, may_exist, take_row, certify, take, nudge, move, go_lower, read, ask}
+use Rattle.protocol.specs.ClientRules.{probes, is_undecided, may_exist, take_row, certify, take, nudge, move, go_lower, read, ask}
 use Rattle.protocol.specs.Coordination.{case_of, begin_case, take_over}
 use Rattle.protocol.specs.Log.{row_of}
-use Rattle.protocol.specs.Outcomes.{Out, rests}
+use Rattle.protocol.specs.Outcomes.{Out}
 use Rattle.protocol.specs.Probing.{start_move, lower}
 use Rattle.protocol.specs.Records.{Stage, NodeRecord}
 use Rattle.protocol.specs.Records.Stage.{Idle, AskedLast, Probing, AskedLower, CasSent}
@@ -33,10 +33,10 @@ take_effect tests version node txn =
     by_option P (take_row node txn) (row_of node.rows txn)
     (λ none. rests_quietly tests version node (inputs.Take txn) (Held node.state))
     (λ row some. by_guard P (is_undecided row.mark && is_none (case_of node.coordinator txn) && may_exist node txn)
-        (λ e. let p = and_parts (is_undecided row.mark && is_none (case_of node.coordinator txn)) (may_exist node txn) e in
-            let q = and_parts (is_undecided row.mark) (is_none (case_of node.coordinator txn)) p.0 in
-            TakesOver txn row some q.0 (is_none-None (case_of node.coordinator txn) q.1) p.1 (new_case row.entry.shards None) refl)
-        (λ e. rests_quietly tests version node (inputs.Take txn) (Held node.state)))
+    (λ e. let p = and_parts (is_undecided row.mark && is_none (case_of node.coordinator txn)) (may_exist node txn) e in
+    let q = and_parts (is_undecided row.mark) (is_none (case_of node.coordinator txn)) p.0 in
+    TakesOver txn row some q.0 (is_none-None (case_of node.coordinator txn) q.1) p.1 (new_case row.entry.shards None) refl)
+    (λ e. rests_quietly tests version node (inputs.Take txn) (Held node.state)))
 
 pub nudge_effect : (tests : Tests) (version : ℕ) (node : NodeRecord) → Effect tests version node inputs.Nudge (nudge node)
 unfolding nudge
@@ -56,7 +56,7 @@ lower_effect tests version node = go node.prober refl
     go (Probing shard want epoch probed low) e =
         by_guard (λ out. Effect tests version node inputs.Lower (probes node out)) (nat_lt 0 (length low) && nat_lt 1 probed.epoch)
         (λ g. let p = and_parts (nat_lt 0 (length low)) (nat_lt 1 probed.epoch) g in
-            Lowers shard want epoch probed low e (ltb-true 0 (length low) p.0) (ltb-true 1 probed.epoch p.1))
+        Lowers shard want epoch probed low e (ltb-true 0 (length low) p.0) (ltb-true 1 probed.epoch p.1))
         (λ g. prober_rests tests version node inputs.Lower (Held epoch) (Probing shard want epoch probed low) e)
     go (AskedLower shard want epoch asked) e = prober_rests tests version node inputs.Lower (Held epoch) (AskedLower shard want epoch asked) e
     go (CasSent config) e = prober_rests tests version node inputs.Lower (Held config.epoch) (CasSent config) e

@@ -1,9 +1,8 @@
 -- The rules of a node that moves a shard, read backwards.
-use Rattle.std.proofs.Common.{◌≡◌, ℕ, Bool, true, false, List, [], ◌∷◌, ◌++◌, ◌&&◌, ◌==◌, ◌+◌, ◌<◌, ◌≤◌, subst, sym, refl, eqb-true, leb-true, leb-false, nat_le, nat_lt}
+use Rattle.std.proofs.Common.{◌≡◌, ℕ, List, [], ◌&&◌, ◌==◌, subst, sym, refl, eqb-true, leb-true, leb-false, nat_le}
 use Rattle.std.proofs.lemmas.Bool.{and_parts}
 use Rattle.tcs_terms.specs.declared.inputs.Input.TheVariants as inputs
-use Rattle.tcs_terms.specs.declared.messages.Message.{Message}
-use Rattle.tcs_terms.specs.declared.messages.Message.TheVariants.{ProbeAck, Cas}
+use Rattle.tcs_terms.specs.declared.messages.Message.TheVariants.{ProbeAck}
 use Rattle.tcs_terms.specs.Places.{Membership, is_among}
 use Rattle.tcs_laws.specs.Certification.{Tests}
 use Rattle.protocol.specs.ClientRules.{probes}
@@ -25,13 +24,13 @@ probing_effect tests version node from epoch state shard want wanted probed low 
     let E : Out NodeRecord → Type 0 = Effect tests version node (inputs.Deliver from (ProbeAck epoch state)) in
     by_guard P ((epoch == wanted) && is_among probed.members from)
     (λ e. let p = and_parts (epoch == wanted) (is_among probed.members from) e in
-        let same : wanted ≡ epoch = sym (eqb-true epoch wanted p.0) in
-        let here : node.prober ≡ Probing shard want epoch probed low = subst (λ n. node.prober ≡ Probing shard want n probed low) same at in
-        by_guard P (nat_le probed.epoch state)
-        (λ le. no_notice E from 7 node.promised _ _ _ (Chooses from state shard want epoch probed low here p.1 (leb-true probed.epoch state le)))
-        (λ lt. no_notice E from 7 node.promised _ _ _
-            (subst (λ n. E (acts (with_stage node (Probing shard want n probed (add_once low from))) [])) (sym same)
-            (FindsLow from state shard want epoch probed low here p.1 (leb-false probed.epoch state lt)))))
+    let same : wanted ≡ epoch = sym (eqb-true epoch wanted p.0) in
+    let here : node.prober ≡ Probing shard want epoch probed low = subst (λ n. node.prober ≡ Probing shard want n probed low) same at in
+    by_guard P (nat_le probed.epoch state)
+    (λ le. no_notice E from 7 node.promised _ _ _ (Chooses from state shard want epoch probed low here p.1 (leb-true probed.epoch state le)))
+    (λ lt. no_notice E from 7 node.promised _ _ _
+    (subst (λ n. E (acts (with_stage node (Probing shard want n probed (add_once low from))) [])) (sym same)
+    (FindsLow from state shard want epoch probed low here p.1 (leb-false probed.epoch state lt)))))
     (λ e. prober_rests_noticed tests version node from 7 (ProbeAck epoch state) (refusal epoch wanted) (Probing shard want wanted probed low) at)
 
 pub probe_ack_effect : (tests : Tests) (version : ℕ) (node : NodeRecord) (from epoch state : ℕ)

@@ -1,19 +1,17 @@
 -- What a node does with a stored configuration, read backwards: as coordinator and as prober.
-use Rattle.std.proofs.Common.{◌≡◌, ℕ, Bool, true, false, List, [], ◌∷◌, ◌++◌, Option, Some, None, ◌&&◌, ◌||◌, ◌==◌, ◌+◌, ◌<◌, ◌≤◌, subst, sym, refl, eqb-true, leb-true, ltb-true, nat_le, nat_lt}
+use Rattle.std.proofs.Common.{◌≡◌, ℕ, true, ◌&&◌, ◌||◌, ◌==◌, eqb-true, leb-true, ltb-true, nat_le, nat_lt}
 use Rattle.std.proofs.lemmas.Bool.{and_parts}
 use Rattle.tcs_terms.specs.declared.limits.TheConstants.{MAX_EPOCH}
 use Rattle.tcs_terms.specs.declared.inputs.Input.TheVariants as inputs
 use Rattle.tcs_terms.specs.declared.messages.Message.TheVariants.{Stored}
-use Rattle.tcs_terms.specs.declared.messages.Outgoing.{Outgoing}
 use Rattle.tcs_terms.specs.Places.{Membership}
 use Rattle.tcs_laws.specs.Certification.{Tests}
-use Rattle.protocol.specs.Choices.{when}
 use Rattle.protocol.specs.Coordination.{is_newer, on_config}
-use Rattle.protocol.specs.Outcomes.{Out, acts, refusal}
+use Rattle.protocol.specs.Outcomes.{Out, refusal}
 use Rattle.protocol.specs.Probing.{awaits, on_stored}
 use Rattle.protocol.specs.Records.{Coordinator, Stage, NodeRecord}
 use Rattle.protocol.specs.Records.Stage.{Idle, AskedLast, Probing, AskedLower, CasSent}
-use Rattle.protocol.specs.Table.{is_awaited, next_stage, learns, on_stored_config}
+use Rattle.protocol.specs.Table.{is_awaited, next_stage, on_stored_config}
 use Rattle.protocol.specs.Views.{view_epoch}
 use Rattle.protocol_laws.specs.Effect.{Effect, Sees, Replaces, Keeps as KeepsView, Hears, Waits, ProbesLast, ProbesLower, IsDone, Learns}
 use Rattle.protocol_laws.proofs.Guards.{by_guard, rests_quietly}

@@ -1,7 +1,5 @@
 -- Whatever the configuration service does with a message is one of three things.
-use Rattle.std.proofs.Common.{◌≡◌, ℕ, ◌+◌, Bool, true, false, List, [], ◌∷◌, ◌++◌, Option, Some, None, ◌==◌, ◌&&◌, filter, find, cond, ◌⊎◌, inl, inr, refl, eqb-true}
-use Rattle.std.specs.List.{last_or}
-use Rattle.tcs_terms.specs.declared.inputs.Handled.{Handled}
+use Rattle.std.proofs.Common.{◌≡◌, ℕ, ◌+◌, true, List, [], ◌∷◌, ◌++◌, Option, Some, None, ◌==◌, ◌&&◌, filter, inl, inr, refl, eqb-true}
 use Rattle.tcs_terms.specs.declared.inputs.Handled.TheVariants.{Held}
 use Rattle.tcs_terms.specs.declared.messages.Message.{Message}
 use Rattle.tcs_terms.specs.declared.messages.Message.TheVariants.{Prepare, PrepareAck, Accept, AcceptAck, DecisionFor, Probe, ProbeAck, NewConfig, NewState, ConfigChange, Last, At, Cas, Stored, OutcomeOf, Refused, StatePiece}
@@ -47,8 +45,8 @@ cas_serves nodes configs from c =
     let P : Out (List Membership) → Type 0 = λ out. S (with_notice from 13 0 out) in
     by_option P (compare_and_set nodes configs from c) (config_at configs c.shard c.epoch)
     (λ free. by_guard P (is_next (last_config configs c.shard) c)
-        (λ e. no_notice S from 13 0 _ _ _ (go (last_config configs c.shard) refl free e))
-        (λ e. holds_noticed nodes configs from (Cas c) 13 (last_epoch configs c.shard)))
+    (λ e. no_notice S from 13 0 _ _ _ (go (last_config configs c.shard) refl free e))
+    (λ e. holds_noticed nodes configs from (Cas c) 13 (last_epoch configs c.shard)))
     (λ kept e. no_notice S from 13 0 _ _ _ (Tells (Cas c) kept (find-StandsIn (λ d. (d.shard == c.shard) && (d.epoch == c.epoch)) configs kept e).0))
   where
     go : (o : Option Membership) → last_config configs c.shard ≡ o → config_at configs c.shard c.epoch ≡ None → is_next o c ≡ true

@@ -1,5 +1,5 @@
 -- Lemmas on what stands in a list: in a part of it, at its end, at a place.
-use Rattle.std.proofs.Common.{◌≡◌, ℕ, zero, suc, Bool, true, false, cond, List, [], ◌∷◌, Option, Some, None, filter, slice_get, ◌⊎◌, inl, inr}
+use Rattle.std.proofs.Common.{◌≡◌, ℕ, zero, suc, Bool, true, false, cond, List, [], ◌∷◌, Option, Some, filter, slice_get, ◌⊎◌, inl, inr}
 use Rattle.std.specs.List.{last_or}
 use Rattle.protocol.specs.Invariant.Time.{StandsIn}
 
