@@ -3,6 +3,8 @@ pub mod Numbered
 pub mod EntriesKept
 pub mod GrowsOf
 pub mod Stored
+pub mod OneEntry
+pub mod Agreement
 pub mod EffectOf
 pub mod ChangeOf
 pub mod OnwardOf
