@@ -5,6 +5,8 @@ pub mod GrowsOf
 pub mod Stored
 pub mod OneEntry
 pub mod Agreement
+pub mod Fronts
+pub mod OneNote
 pub mod EffectOf
 pub mod ChangeOf
 pub mod OnwardOf
