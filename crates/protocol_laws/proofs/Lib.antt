@@ -10,6 +10,10 @@ pub mod Numbered
 pub mod EntriesKept
 pub mod GrowsOf
 pub mod Stored
+pub mod OneEntry
+pub mod Agreement
+pub mod Fronts
+pub mod OneNote
 pub mod EffectOf
 pub mod ServesOf
 pub mod ChangeOf
