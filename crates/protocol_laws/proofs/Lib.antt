@@ -33,3 +33,4 @@ pub mod TransactionsCame
 pub mod TransactionsNotes
 pub mod Kept
 pub mod RunInduction
+pub mod LimitedRuns

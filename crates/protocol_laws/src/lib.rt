@@ -2,4 +2,5 @@
 #![tactic(auto)]
 
 pub mod invariant;
+pub mod limits;
 pub mod steps;
