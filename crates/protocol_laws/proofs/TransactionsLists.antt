@@ -1,0 +1,107 @@
+-- What stands in lists that are joined, mapped, filtered, or kept by transaction.
+use Rattle.std.proofs.Common.{◌≡◌, ℕ, Bool, true, false, cond, List, [], ◌∷◌, ◌++◌, map, filter, flat_map, length, Option, Some, None, ◌&&◌, ◌==◌, ◌⊎◌, inl, inr, sym, ap, ap₂, subst, refl, eqb-true}
+use Rattle.std.specs.Map.{lookup, set_value, remove_entry}
+use Rattle.tcs_terms.specs.declared.ids.TxId.{TxId}
+use Rattle.tcs_terms.specs.Logs.{same_txn}
+use Rattle.protocol.specs.Invariant.Time.{StandsIn}
+use Rattle.protocol.proofs.FirstRoles.{and-left, and-right}
+
+pub StandsIn-left : {X : Type 0} (xs ys : List X) (x : X) → StandsIn x xs → StandsIn x (xs ++ ys)
+StandsIn-left [] ys x s = absurd s
+StandsIn-left (z ∷ zs) ys x (inl e) = inl e
+StandsIn-left (z ∷ zs) ys x (inr s) = inr (StandsIn-left zs ys x s)
+
+pub StandsIn-right : {X : Type 0} (xs ys : List X) (x : X) → StandsIn x ys → StandsIn x (xs ++ ys)
+StandsIn-right [] ys x s = s
+StandsIn-right (z ∷ zs) ys x s = inr (StandsIn-right zs ys x s)
+
+-- the element that a mapped one comes from
+pub record IsImage {X Y : Type 0} (f : X → Y) (xs : List X) (y : Y) : Type 0 where
+  pub source : X
+  pub among : StandsIn source xs
+  pub is : y ≡ f source
+
+pub map-StandsIn : {X Y : Type 0} (f : X → Y) (xs : List X) (y : Y) → StandsIn y (map f xs) → IsImage f xs y
+map-StandsIn f [] y s = absurd s
+map-StandsIn f (x ∷ xs) y (inl e) = record { source = x; among = inl refl; is = e }
+map-StandsIn f (x ∷ xs) y (inr s) = let i : IsImage f xs y = map-StandsIn f xs y s in record { source = i.source; among = inr i.among; is = i.is }
+
+pub StandsIn-map : {X Y : Type 0} (f : X → Y) (xs : List X) (x : X) → StandsIn x xs → StandsIn (f x) (map f xs)
+StandsIn-map f [] x s = absurd s
+StandsIn-map f (y ∷ ys) x (inl e) = inl (ap f e)
+StandsIn-map f (y ∷ ys) x (inr s) = inr (StandsIn-map f ys x s)
+
+pub filter-StandsIn : {X : Type 0} (p : X → Bool) (xs : List X) (x : X) → StandsIn x (filter p xs) → StandsIn x xs × (p x ≡ true)
+filter-StandsIn p [] x s = absurd s
+filter-StandsIn {X = X} p (y ∷ ys) x s = go (p y) refl s (filter-StandsIn p ys x)
+  where
+    go : (b : Bool) → p y ≡ b → StandsIn x (cond b (y ∷ filter p ys) (filter p ys)) → (StandsIn x (filter p ys) → StandsIn x ys × (p x ≡ true)) → StandsIn x (y ∷ ys) × (p x ≡ true)
+    go true e (inl q) ih = (inl q, cc)
+    go true e (inr q) ih = (inr (ih q).0, (ih q).1)
+    go false e q ih = (inr (ih q).0, (ih q).1)
+
+pub StandsIn-filter : {X : Type 0} (p : X → Bool) (xs : List X) (x : X) → StandsIn x xs → p x ≡ true → StandsIn x (filter p xs)
+StandsIn-filter p [] x s h = absurd s
+StandsIn-filter {X = X} p (y ∷ ys) x s h = go (p y) refl s (λ r. StandsIn-filter p ys x r h)
+  where
+    go : (b : Bool) → p y ≡ b → StandsIn x (y ∷ ys) → (StandsIn x ys → StandsIn x (filter p ys)) → StandsIn x (cond b (y ∷ filter p ys) (filter p ys))
+    go true e (inl q) ih = inl q
+    go true e (inr q) ih = inr (ih q)
+    go false e (inl q) ih = absurd (let k : p x ≡ p y = ap p q in cc (k, e, h))
+    go false e (inr q) ih = ih q
+
+-- the element whose list a joined one comes from
+pub record IsPiece {X Y : Type 0} (f : X → List Y) (xs : List X) (y : Y) : Type 0 where
+  pub source : X
+  pub among : StandsIn source xs
+  pub within : StandsIn y (f source)
+
+pub flat_map-StandsIn : {X Y : Type 0} (f : X → List Y) (xs : List X) (y : Y) → StandsIn y (flat_map f xs) → IsPiece f xs y
+flat_map-StandsIn f [] y s = absurd s
+flat_map-StandsIn {X = X} {Y = Y} f (x ∷ xs) y s = go (f x) refl s (flat_map-StandsIn f xs y)
+  where
+    later : IsPiece f xs y → IsPiece f (x ∷ xs) y
+    later i = record { source = i.source; among = inr i.among; within = i.within }
+    here : (ys : List Y) → f x ≡ ys → StandsIn y ys → IsPiece f (x ∷ xs) y
+    here ys e q = record { source = x; among = inl refl; within = rw e q }
+    split : (ys zs : List Y) → StandsIn y (ys ++ zs) → StandsIn y ys ⊎ StandsIn y zs
+    split [] zs q = inr q
+    split (z ∷ ys) zs (inl q) = inl (inl q)
+    split (z ∷ ys) zs (inr q) = elim (split ys zs q) [ inl r ↦ inl (inr r) | inr r ↦ inr r ]
+    go : (ys : List Y) → f x ≡ ys → StandsIn y (ys ++ flat_map f xs) → (StandsIn y (flat_map f xs) → IsPiece f xs y) → IsPiece f (x ∷ xs) y
+    go ys e q ih = elim (split ys (flat_map f xs) q) [ inl r ↦ here ys e r | inr r ↦ later (ih r) ]
+
+-- two transactions that pass as one are one
+pub same_txn-eq : (a b : TxId) → same_txn a b ≡ true → a ≡ b
+same_txn-eq a b h =
+    let home : a.home ≡ b.home = eqb-true a.home b.home (and-left (a.home == b.home) (a.seq == b.seq) h) in
+    let seq : a.seq ≡ b.seq = eqb-true a.seq b.seq (and-right (a.home == b.home) (a.seq == b.seq) h) in
+    ap₂ (λ home seq. record { home = home; seq = seq }) home seq
+
+pub lookup-StandsIn : {X : Type 0} (txn : TxId) (es : List (TxId × X)) (x : X) → lookup (same_txn txn) es ≡ Some x → StandsIn (txn, x) es
+lookup-StandsIn txn [] x h = absurd (cc h)
+lookup-StandsIn {X = X} txn (e ∷ es) x h = go (same_txn txn e.0) refl h (lookup-StandsIn txn es x)
+  where
+    go : (b : Bool) → same_txn txn e.0 ≡ b → cond b (Some e.1) (lookup (same_txn txn) es) ≡ Some x → (lookup (same_txn txn) es ≡ Some x → StandsIn (txn, x) es) → StandsIn (txn, x) (e ∷ es)
+    go true s k ih = inl (let v : x ≡ e.1 = cc k in ap₂ {C = TxId × X} (λ a b. (a, b)) (same_txn-eq txn e.0 s) v)
+    go false s k ih = inr (ih k)
+
+pub set_value-StandsIn : {X : Type 0} (txn : TxId) (es : List (TxId × X)) (w : X) (x : TxId × X) → StandsIn x (set_value (same_txn txn) es w) → StandsIn x es ⊎ (x ≡ (txn, w))
+set_value-StandsIn txn [] w x s = absurd s
+set_value-StandsIn {X = X} txn (e ∷ es) w x s = go (same_txn txn e.0) refl s (set_value-StandsIn txn es w x)
+  where
+    go : (b : Bool) → same_txn txn e.0 ≡ b → StandsIn x (cond b ((e.0, w) ∷ es) (e ∷ set_value (same_txn txn) es w))
+        → (StandsIn x (set_value (same_txn txn) es w) → StandsIn x es ⊎ (x ≡ (txn, w))) → StandsIn x (e ∷ es) ⊎ (x ≡ (txn, w))
+    go true q (inl r) ih = inr (subst (λ t. x ≡ (t, w)) (sym (same_txn-eq txn e.0 q)) r)
+    go true q (inr r) ih = inl (inr r)
+    go false q (inl r) ih = inl (inl r)
+    go false q (inr r) ih = elim (ih r) [ inl k ↦ inl (inr k) | inr k ↦ inr k ]
+
+pub remove_entry-StandsIn : {X : Type 0} (txn : TxId) (es : List (TxId × X)) (x : TxId × X) → StandsIn x (remove_entry (same_txn txn) es) → StandsIn x es
+remove_entry-StandsIn txn [] x s = absurd s
+remove_entry-StandsIn {X = X} txn (e ∷ es) x s = go (same_txn txn e.0) s (remove_entry-StandsIn txn es x)
+  where
+    go : (b : Bool) → StandsIn x (cond b es (e ∷ remove_entry (same_txn txn) es)) → (StandsIn x (remove_entry (same_txn txn) es) → StandsIn x es) → StandsIn x (e ∷ es)
+    go true r ih = inr r
+    go false (inl r) ih = inl r
+    go false (inr r) ih = inr (ih r)
