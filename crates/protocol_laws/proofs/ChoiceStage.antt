@@ -1,5 +1,5 @@
 -- A prober's next stage holds, by what held before.
-use Rattle.std.proofs.Common.{◌≡◌, ℕ, zero, suc, ◌<◌, ◌≤◌, ◌+◌, ◌-◌, Bool, true, false, cond, List, [], ◌∷◌, ◌++◌, map, filter, length, ◌⊎◌, inl, inr, sym, ◌∙◌, ap, subst, refl, arith, ◌==◌, eq-eqb, eqb-true}
+use Rattle.std.proofs.Common.{◌≡◌, ℕ, zero, suc, ◌<◌, ◌≤◌, ◌+◌, ◌-◌, Bool, true, false, cond, List, [], ◌∷◌, ◌++◌, map, filter, length, ◌⊎◌, inl, inr, sym, subst, refl, arith, ◌==◌, eq-eqb, eqb-true}
 use Rattle.std.proofs.lemmas.Bool.{eqb-false}
 use Rattle.std.specs.List.{range_with_len}
 use Rattle.tcs_terms.specs.declared.inputs.Input.{Input}
@@ -26,6 +26,7 @@ use Rattle.protocol_laws.specs.Effect.{Hears, Effect}
 use Rattle.protocol_laws.specs.Effect.Hears.{Waits, ProbesLast, ProbesLower, IsDone}
 use Rattle.protocol_laws.specs.Effect.Effect.{Rests, Certifies, TakesOver, Nudges, Moves, Lowers, Reads, Asks, AnswersAgain, Appends, Votes, Acknowledges, Changes, Learns, Keeps, Accepts, Marks, Promises, Chooses, FindsLow, Leads, Follows, Gathers, FollowsPieces}
 use Rattle.protocol_laws.proofs.ConfigurationsHad.{had}
+use Rattle.protocol_laws.proofs.Standing.{StandsIn-map, StandsIn-filter}
 
 range-low : (from n m : ℕ) → StandsIn m (range_with_len from n) → from ≤ m
 range-low from zero m s = absurd s
@@ -33,17 +34,7 @@ range-low from (suc n) m (inl e) = omega (arith, e)
 range-low from (suc n) m (inr s) = omega (arith, range-low (from + 1) n m s)
 
 epoch-StandsIn : (shard : ℕ) (cs : List Membership) (c : Membership) → c.shard ≡ shard → StandsIn c cs → StandsIn c.epoch (map (λ d. d.epoch) (filter (λ d. d.shard == shard) cs))
-epoch-StandsIn shard [] c e s = s
-epoch-StandsIn shard (d ∷ ds) c e (inl q) = go (d.shard == shard) (eq-eqb d.shard shard (ap (λ m. m.shard) (sym q) ∙ e))
-  where
-    go : (b : Bool) → b ≡ true → StandsIn c.epoch (map (λ x. x.epoch) (cond b (d ∷ filter (λ x. x.shard == shard) ds) (filter (λ x. x.shard == shard) ds)))
-    go true k = inl (ap (λ m. m.epoch) q)
-    go false k = absurd (cc k)
-epoch-StandsIn shard (d ∷ ds) c e (inr s) = go (d.shard == shard) (epoch-StandsIn shard ds c e s)
-  where
-    go : (b : Bool) → StandsIn c.epoch (map (λ x. x.epoch) (filter (λ x. x.shard == shard) ds)) → StandsIn c.epoch (map (λ x. x.epoch) (cond b (d ∷ filter (λ x. x.shard == shard) ds) (filter (λ x. x.shard == shard) ds)))
-    go true ih = inr ih
-    go false ih = ih
+epoch-StandsIn shard cs c e s = StandsIn-map (λ d. d.epoch) (filter (λ d. d.shard == shard) cs) c (StandsIn-filter (λ d. d.shard == shard) cs c s (eq-eqb c.shard shard e))
 
 -- the epoch of a stored configuration is at least 1
 pub stored-epoch : (setup : Deployment) (t : Moment) (k : Membership) → ConfigurationsHold setup t → IsStored t k → 1 ≤ k.epoch

@@ -17,7 +17,9 @@ use Rattle.protocol.proofs.Lists.{StandsIn-append, all-StandsIn, among-StandsIn}
 use Rattle.protocol_laws.specs.Effect.{Hears, Effect}
 use Rattle.protocol_laws.specs.Effect.Hears.{Waits, ProbesLast, ProbesLower, IsDone}
 use Rattle.protocol_laws.specs.Effect.Effect.{Rests, Certifies, TakesOver, Nudges, Moves, Lowers, Reads, Asks, AnswersAgain, Appends, Votes, Acknowledges, Changes, Learns, Keeps, Accepts, Marks, Promises, Chooses, FindsLow, Leads, Follows, Gathers, FollowsPieces}
-use Rattle.protocol_laws.proofs.ConfigurationsLists.{StandsIn-right, filter-StandsIn, each-list_all, StandsIn-among}
+use Rattle.protocol_laws.proofs.ConfigurationsLists.{each-list_all, StandsIn-among}
+use Rattle.protocol_laws.proofs.Standing.{StandsIn-right}
+use Rattle.protocol_laws.proofs.Stands.{filter-StandsIn}
 
 -- the wanted nodes and one more
 joined-StandsIn : (node n : ℕ) (nodes : List ℕ) → StandsIn n (joined node nodes) → (n ≡ node) ⊎ StandsIn n nodes

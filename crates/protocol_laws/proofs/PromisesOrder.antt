@@ -11,7 +11,7 @@ use Rattle.tcs_terms.proofs.BoolLaws.{both, left_of, right_of, not_false}
 use Rattle.protocol.specs.Invariant.Logs.{entries_of}
 use Rattle.protocol.specs.Invariant.Time.{StandsIn}
 use Rattle.protocol.proofs.Lists.{StandsIn-append}
-use Rattle.protocol_laws.proofs.ConfigurationsLists.{StandsIn-left}
+use Rattle.protocol_laws.proofs.Standing.{StandsIn-left}
 
 -- a slot in its range
 abbrev pub slot_fits : Preparation → Bool

@@ -17,7 +17,8 @@ use Rattle.protocol.specs.Invariant.Logs.{entries_of}
 use Rattle.protocol.specs.Invariant.Time.{StandsIn}
 use Rattle.protocol.proofs.Lists.{StandsIn-append, all-StandsIn}
 use Rattle.protocol_laws.proofs.PromisesOrder.{slot_fits, InOrder, rows-in_order, in_order-rows, in_order-left, in_order-right}
-use Rattle.protocol_laws.proofs.ConfigurationsLists.{StandsIn-left, StandsIn-right, each-list_all}
+use Rattle.protocol_laws.proofs.ConfigurationsLists.{each-list_all}
+use Rattle.protocol_laws.proofs.Standing.{StandsIn-left, StandsIn-right}
 
 -- a part of rows that may stand in a log may stand in one
 pub piece-rows : (rows : List Row) (number : ℕ) → AreRows rows → AreRows (piece_of rows number)

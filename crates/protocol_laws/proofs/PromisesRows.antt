@@ -1,5 +1,5 @@
 -- What becomes of rows stays fit for a log: rows appended, put, marked, and gathered from pieces.
-use Rattle.std.proofs.Common.{◌≡◌, ℕ, ◌+◌, ◌<◌, ◌≤◌, Bool, true, false, cond, not, List, [], ◌∷◌, ◌++◌, filter, find, Option, Some, None, is_some, ◌==◌, ◌&&◌, ◌||◌, inl, inr, sym, ◌∙◌, ap, subst, refl, arith, ltb-true, leb-false, le-leb, nat_le, nat_lt}
+use Rattle.std.proofs.Common.{◌≡◌, ℕ, ◌+◌, ◌<◌, ◌≤◌, Bool, true, false, cond, not, List, [], ◌∷◌, ◌++◌, filter, Option, Some, None, is_some, ◌==◌, ◌&&◌, ◌||◌, inl, inr, sym, ◌∙◌, ap, subst, refl, arith, ltb-true, leb-false, le-leb, nat_le, nat_lt}
 use Rattle.std.specs.List.{last_or}
 use Rattle.std.proofs.lemmas.List.{map-append}
 use Rattle.tcs_terms.specs.declared.ids.TxId.{TxId}
@@ -13,34 +13,14 @@ use Rattle.protocol.specs.Log.{row_of, row_at, last_slot, slot_or_zero, is_full,
 use Rattle.protocol.specs.Invariant.Logs.{entries_of}
 use Rattle.protocol.specs.Invariant.Time.{StandsIn}
 use Rattle.protocol_laws.proofs.PromisesOrder.{slot_fits, InOrder, same_txn-refl, rows-in_order, in_order-rows, in_order-join, in_order-filter, filtered-StandsIn, in_order-apart}
-
--- none that is looked for in vain passes the test
-none-row : (test : Row → Bool) (rows : List Row) → find test rows ≡ None → (r : Row) → StandsIn r rows → test r ≡ false
-none-row test [] h r s = absurd s
-none-row test (q ∷ qs) h r s = go (test q) refl h s (none-row test qs)
-  where
-    go : (b : Bool) → test q ≡ b → cond b (Some q) (find test qs) ≡ None → StandsIn r (q ∷ qs) → (find test qs ≡ None → (x : Row) → StandsIn x qs → test x ≡ false) → test r ≡ false
-    go true e k s ih = absurd (cc k)
-    go false e k (inl p) ih = subst (λ x. test x ≡ false) (sym p) e
-    go false e k (inr p) ih = ih k r p
-
--- a row of each entry
-pub record HasRow (rows : List Row) (y : Preparation) : Type 0 where
-  pub row : Row
-  pub there : StandsIn row rows
-  pub is : row.entry ≡ y
-
-pub has_row : (rows : List Row) (y : Preparation) → StandsIn y (entries_of rows) → HasRow rows y
-has_row [] y s = absurd s
-has_row (r ∷ rs) y (inl e) = record { row = r; there = inl refl; is = sym e }
-has_row (r ∷ rs) y (inr s) = let h : HasRow rs y = has_row rs y s in record { row = h.row; there = inr h.there; is = h.is }
+use Rattle.protocol_laws.proofs.Standing.{IsMapped, map-StandsIn, find-none}
 
 -- a transaction without a row is that of no entry
 pub no_row : (rows : List Row) (txn : TxId) → row_of rows txn ≡ None → (y : Preparation) → StandsIn y (entries_of rows) → y.txn ≡ txn → ⊥
 no_row rows txn h y s e =
-    let r : HasRow rows y = has_row rows y s in
-    let f : same_txn r.row.entry.txn txn ≡ false = none-row (λ q. same_txn q.entry.txn txn) rows h r.row r.there in
-    let t : same_txn r.row.entry.txn txn ≡ true = subst (λ x. same_txn x txn ≡ true) (sym e ∙ ap (λ m. m.txn) (sym r.is)) (same_txn-refl txn) in
+    let r : IsMapped (λ q. q.entry) rows y = map-StandsIn (λ q. q.entry) rows y s in
+    let f : same_txn r.from.entry.txn txn ≡ false = find-none (λ q. same_txn q.entry.txn txn) rows r.from h r.there in
+    let t : same_txn r.from.entry.txn txn ≡ true = subst (λ x. same_txn x txn ≡ true) (sym e ∙ ap (λ m. m.txn) r.is) (same_txn-refl txn) in
     cc (f, t)
 
 -- the last slot is the greatest

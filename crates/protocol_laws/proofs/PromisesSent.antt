@@ -16,7 +16,7 @@ use Rattle.protocol.specs.Invariant.Transfer.{TransferHolds, IsSentInPieces}
 use Rattle.protocol_laws.proofs.PromisesOrder.{slot_fits, InOrder, rows-in_order, in_order-rows, in_order-fits}
 use Rattle.protocol_laws.proofs.PromisesPieces.{piece-rows}
 use Rattle.protocol_laws.proofs.PromisesRows.{same_entries-rows}
-use Rattle.protocol_laws.proofs.ConfigurationsLists.{StandsIn-right}
+use Rattle.protocol_laws.proofs.Standing.{StandsIn-right}
 
 -- the rows of any node, now or before
 pub past-rows : (t : Moment) → PromisesHold t → (w : World) (node : NodeRecord) → StandsIn w (worlds t) → StandsIn node w.nodes → AreRows node.rows
