@@ -1,5 +1,5 @@
 -- One event keeps the promises.
-use Rattle.std.proofs.Common.{◌≡◌, ℕ, ◌≤◌, true, ◌∷◌, ◌⊎◌, inl, inr, sym, ◌∙◌, ap, subst, refl, arith}
+use Rattle.std.proofs.Common.{◌≡◌, ℕ, ◌≤◌, true, ◌⊎◌, inl, inr, sym, ◌∙◌, ap, subst, refl, arith}
 use Rattle.tcs_terms.specs.declared.inputs.Event.{Event}
 use Rattle.tcs_terms.specs.declared.inputs.Input.{Input}
 use Rattle.tcs_terms.specs.declared.messages.Message.TheVariants.{Accept, NewState, StatePiece}
@@ -12,7 +12,7 @@ use Rattle.tcs_laws.specs.Certification.{Tests}
 use Rattle.protocol.specs.Outcomes.{Out}
 use Rattle.protocol.specs.Records.{NodeRecord}
 use Rattle.protocol.specs.ShardRules.{least}
-use Rattle.protocol.specs.World.{World, Happening, happens_at}
+use Rattle.protocol.specs.World.{Happening, happens_at}
 use Rattle.protocol.specs.Invariant.{InvariantHolds}
 use Rattle.protocol.specs.Invariant.Configurations.{ConfigurationsHold, HasMembers}
 use Rattle.protocol.specs.Invariant.Logs.{entries_of, Reached, Held}
@@ -120,9 +120,6 @@ promises_kept tests setup t event h turn c =
       reached = reached_kept setup t u c o p;
       held = held_kept setup t u c o p;
       rows = λ node n. (keeps node n).rows;
-      rows_before = before p;
+      rows_before = past-rows t p;
       gathered = λ node g n e. (keeps node n).gathers g e;
     }
-  where
-    before : PromisesHold t → (w : World) (node : NodeRecord) → StandsIn w (t.now ∷ t.before) → StandsIn node w.nodes → AreRows node.rows
-    before p w node s n = past-rows t p w node s n
