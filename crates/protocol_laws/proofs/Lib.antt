@@ -14,6 +14,10 @@ pub mod OneEntry
 pub mod Agreement
 pub mod Fronts
 pub mod OneNote
+pub mod PastKept
+pub mod AcceptedSays
+pub mod Verdicts
+pub mod PartsOf
 pub mod EffectOf
 pub mod ServesOf
 pub mod ChangeOf
