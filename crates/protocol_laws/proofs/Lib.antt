@@ -37,3 +37,9 @@ pub mod TransactionsCame
 pub mod TransactionsNotes
 pub mod Kept
 pub mod RunInduction
+pub mod WithPast
+pub mod BegunFirst
+pub mod AgreesOf
+pub mod OrderOf
+pub mod KeepsTime
+pub mod HistoryLaws

@@ -1,5 +1,6 @@
 //! What holds of every run of the protocol.
 #![tactic(auto)]
 
+pub mod histories;
 pub mod invariant;
 pub mod steps;
