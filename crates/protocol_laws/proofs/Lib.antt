@@ -11,6 +11,8 @@ pub mod PastKept
 pub mod AcceptedSays
 pub mod Verdicts
 pub mod PartsOf
+pub mod DecidedEntries
+pub mod DecidesNow
 pub mod EffectOf
 pub mod ChangeOf
 pub mod OnwardOf
