@@ -13,6 +13,8 @@ pub mod Verdicts
 pub mod PartsOf
 pub mod DecidedEntries
 pub mod DecidesNow
+pub mod VotesSay
+pub mod LegalInShard
 pub mod EffectOf
 pub mod ChangeOf
 pub mod OnwardOf
