@@ -15,6 +15,8 @@ pub mod DecidedEntries
 pub mod DecidesNow
 pub mod VotesSay
 pub mod LegalInShard
+pub mod LegalNow
+pub mod CausesNow
 pub mod EffectOf
 pub mod ChangeOf
 pub mod OnwardOf
