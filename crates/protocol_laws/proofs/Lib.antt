@@ -17,6 +17,7 @@ pub mod VotesSay
 pub mod LegalInShard
 pub mod LegalNow
 pub mod CausesNow
+pub mod HistoryKept
 pub mod EffectOf
 pub mod ChangeOf
 pub mod OnwardOf
