@@ -18,6 +18,7 @@ pub mod LegalInShard
 pub mod LegalNow
 pub mod CausesNow
 pub mod HistoryKept
+pub mod PayloadsKept
 pub mod EffectOf
 pub mod ChangeOf
 pub mod OnwardOf
