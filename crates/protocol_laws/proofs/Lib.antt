@@ -19,6 +19,8 @@ pub mod LegalNow
 pub mod CausesNow
 pub mod HistoryKept
 pub mod PayloadsKept
+pub mod WithPast
+pub mod CorrectNotes
 pub mod EffectOf
 pub mod ChangeOf
 pub mod OnwardOf
