@@ -21,6 +21,7 @@ pub mod HistoryKept
 pub mod PayloadsKept
 pub mod WithPast
 pub mod CorrectNotes
+pub mod Orders
 pub mod EffectOf
 pub mod ChangeOf
 pub mod OnwardOf
