@@ -22,6 +22,7 @@ pub mod PayloadsKept
 pub mod WithPast
 pub mod CorrectNotes
 pub mod Orders
+pub mod CorrectOrder
 pub mod EffectOf
 pub mod ChangeOf
 pub mod OnwardOf
