@@ -1,5 +1,5 @@
 -- Agreement in a history, from what holds at its end.
-use Rattle.std.proofs.Common.{◌≡◌, ℕ, Bool, true, false, not, List, [], ◌∷◌, ◌++◌, ◌&&◌, ◌||◌, ◌==◌, inl, inr, sym, ◌∙◌, ap, subst, refl, eq-eqb}
+use Rattle.std.proofs.Common.{◌≡◌, Bool, true, false, not, List, ◌∷◌, ◌++◌, ◌||◌, ◌==◌, inl, sym, ap, subst, refl, eq-eqb}
 use Rattle.std.specs.List.{list_all}
 use Rattle.tcs_terms.specs.declared.ids.TxId.{TxId}
 use Rattle.tcs_terms.specs.declared.inputs.Note.{Note}
@@ -14,14 +14,11 @@ use Rattle.protocol.specs.CorrectHistory.{same_cause, same_decision, agrees_with
 use Rattle.protocol.specs.History.{has_begun}
 use Rattle.protocol.specs.Invariant.Time.{StandsIn}
 use Rattle.protocol_laws.proofs.BegunFirst.{BegunFirst}
-use Rattle.protocol_laws.proofs.Standing.{StandsIn-left, StandsIn-right}
+use Rattle.protocol_laws.proofs.Standing.{StandsIn-left, StandsIn-right, all-from}
 use Rattle.protocol_laws.proofs.TransactionsLists.{same_txn-eq}
-use Rattle.protocol_laws.proofs.WithPast.{all-of, with_past-all, or-right}
+use Rattle.protocol_laws.proofs.WithPast.{all-with_past, same_txn-self}
 
--- a transaction, a cause and a decision are one with themselves
-pub same_txn-self : (t : TxId) → same_txn t t ≡ true
-same_txn-self t = both (t.home == t.home) (t.seq == t.seq) (eq-eqb t.home t.home refl) (eq-eqb t.seq t.seq refl)
-
+-- a cause and a decision are one with themselves
 same_cause-self : (c : Cause) → same_cause c c ≡ true
 same_cause-self (Clash t) = same_txn-self t
 same_cause-self Lost = refl
@@ -50,7 +47,7 @@ agrees_after-of h before (Take txn) after b o e = refl
 agrees_after-of h before (ReadValue name version value) after b o e = refl
 agrees_after-of h before (Decide txn decision) after b o e =
     both (has_begun before txn) (list_all (agrees_with txn decision) before) (b.each before txn decision after e)
-    (all-of (agrees_with txn decision) before (λ n s. agrees_with-of txn decision n (λ other k. o txn other decision (earlier other (subst (λ m. StandsIn m before) k s)) now)))
+    (all-from (agrees_with txn decision) before (λ n s. agrees_with-of txn decision n (λ other k. o txn other decision (earlier other (subst (λ m. StandsIn m before) k s)) now)))
   where
     now : StandsIn (Decide txn decision) h
     now = subst (λ ns. StandsIn (Decide txn decision) ns) (sym e) (StandsIn-right before (Decide txn decision ∷ after) (Decide txn decision) (inl refl))
@@ -59,4 +56,4 @@ agrees_after-of h before (Decide txn decision) after b o e =
     earlier other s = subst (λ ns. StandsIn (Decide txn other) ns) (sym e) (StandsIn-left before (Decide txn decision ∷ after) (Decide txn other) s)
 
 pub agrees-of : (h : List Note) → BegunFirst h → DecidesOnce h → agrees h ≡ true
-agrees-of h b o = with_past-all (λ e. agrees_after e.0 e.1) h (λ before n after e. agrees_after-of h before n after b o e)
+agrees-of h b o = all-with_past (λ e. agrees_after e.0 e.1) h (λ before n after e. agrees_after-of h before n after b o e)

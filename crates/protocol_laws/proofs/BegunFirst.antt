@@ -1,5 +1,5 @@
 -- Each decision stands after its transaction's beginning.
-use Rattle.std.proofs.Common.{◌≡◌, List, [], ◌∷◌, ◌++◌, Some, is_some, ◌⊎◌, inl, inr, true, sym, ◌∙◌, ap, subst, refl, append-nil}
+use Rattle.std.proofs.Common.{◌≡◌, List, [], ◌∷◌, ◌++◌, Some, is_some, inl, true, sym, ◌∙◌, ap, subst, refl, append-nil}
 use Rattle.tcs_terms.specs.declared.ids.TxId.{TxId}
 use Rattle.tcs_terms.specs.declared.inputs.Event.{Event}
 use Rattle.tcs_terms.specs.declared.inputs.Note.{Note}
@@ -11,29 +11,18 @@ use Rattle.protocol.specs.History.{has_begun, payload_in}
 use Rattle.protocol.specs.Invariant.{InvariantHolds}
 use Rattle.protocol.specs.Invariant.Time.{Moment, StandsIn, goes_to, time_after}
 use Rattle.protocol.specs.Invariant.Transactions.{HasBegun}
-use Rattle.protocol.specs.World.{Happening, first_world}
+use Rattle.protocol.specs.World.{first_world}
 use Rattle.protocol_laws.specs.Runs.{AreEvents}
-use Rattle.protocol_laws.specs.Turn.{Turn}
 use Rattle.protocol_laws.proofs.Agreement.{decided-HasBegun}
 use Rattle.protocol_laws.proofs.Fronts.{Splits, InFirst, InSecond, splits, payload_in-decide}
-use Rattle.protocol_laws.proofs.OneNote.{AtMostOne, GoesOnByOne, change-one}
+use Rattle.protocol_laws.proofs.HistoryKept.{IsLast, is_last}
+use Rattle.protocol_laws.proofs.OneNote.{GoesOnByOne, change-one}
 use Rattle.protocol_laws.proofs.RunInduction.{IsKept, run_induction}
 use Rattle.protocol_laws.proofs.Standing.{StandsIn-right}
 
 -- whatever is decided in a history has begun before
 pub record BegunFirst (history : List Note) : Type 0 where
   pub each : (before : List Note) (txn : TxId) (decision : Decision) (after : List Note) → history ≡ before ++ (Decide txn decision ∷ after) → has_begun before txn ≡ true
-
--- a list of at most one note, split at a note, is that note
-pub one-split : (notes before : List Note) (n : Note) (after : List Note) → AtMostOne notes → notes ≡ before ++ (n ∷ after) → (before ≡ []) × (after ≡ [])
-one-split notes [] n after (inl e) h = absurd (cc (e, h))
-one-split notes (b ∷ before) n after (inl e) h = absurd (cc (e, h))
-one-split notes [] n after (inr m) h = (refl, cc (m.1, h))
-one-split notes (b ∷ before) n after (inr m) h = absurd (nothing before (cc (m.1, h)))
-  where
-    nothing : (xs : List Note) → [] ≡ xs ++ (n ∷ after) → ⊥
-    nothing [] e = cc e
-    nothing (x ∷ xs) e = cc e
 
 -- the new note of a history is a decision
 new_decision : (tests : Tests) (setup : Deployment) (u : Moment) (history : List Note) (txn : TxId) (decision : Decision) → InvariantHolds tests setup u → u.now.history ≡ history ++ Decide txn decision ∷ [] → has_begun history txn ≡ true
@@ -55,10 +44,10 @@ begun_first-kept tests setup t event h turn after q b = record { each = each }
         go : Splits t.now.history one.notes before (Decide txn decision) later → has_begun before txn ≡ true
         go (InFirst rest x y) = b.each before txn decision rest x
         go (InSecond between x y) =
-            let none : (between ≡ []) × (later ≡ []) = one-split one.notes between (Decide txn decision) later one.one y in
-            let same : before ≡ t.now.history = x ∙ ap (λ ns. t.now.history ++ ns) none.0 ∙ append-nil t.now.history in
-            let all : h.after.history ≡ before ++ Decide txn decision ∷ [] = e ∙ ap (λ ns. before ++ (Decide txn decision ∷ ns)) none.1 in
-            new_decision tests setup (goes_to t h.after) before txn decision after all
+            let last : IsLast one.notes between (Decide txn decision) = is_last one.notes between (Decide txn decision) later one.one y in
+            let same : before ≡ t.now.history = x ∙ ap (λ ns. t.now.history ++ ns) last.nothing ∙ append-nil t.now.history in
+            let all : h.after.history ≡ t.now.history ++ Decide txn decision ∷ [] = one.is ∙ ap (λ ns. t.now.history ++ ns) last.only in
+            subst (λ ns. has_begun ns txn ≡ true) (sym same) (new_decision tests setup (goes_to t h.after) t.now.history txn decision after all)
 
 begun_first-starts : (setup : Deployment) → BegunFirst (first_world setup).history
 unfolding first_world

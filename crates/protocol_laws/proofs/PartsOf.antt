@@ -14,6 +14,11 @@ StandsIn-range from (suc n) k l h = elim (eq-or-lt_of_le l) [
   | inr m ↦ inr (StandsIn-range (from + 1) n k (omega (arith, m)) (omega (arith, h)))
 ]
 
+pub range-StandsIn : (from count k : ℕ) → StandsIn k (range_with_len from count) → (from ≤ k) × (k < from + count)
+range-StandsIn from zero k s = absurd s
+range-StandsIn from (suc n) k (inl e) = (omega (arith, e), omega (arith, e))
+range-StandsIn from (suc n) k (inr s) = let r : (from + 1 ≤ k) × (k < from + 1 + n) = range-StandsIn (from + 1) n k s in (omega (arith, r.0), omega (arith, r.1))
+
 -- a filter keeps nothing exactly where nothing passes
 none_kept : {X : Type 0} (f : X → Bool) (xs : List X) → (length (filter f xs) == 0) ≡ not (list_any f xs)
 none_kept f [] = refl

@@ -1,74 +1,58 @@
--- A test of each element of a list with those before it, from what holds wherever the list is split.
-use Rattle.std.proofs.Common.{◌≡◌, Bool, true, false, List, [], ◌∷◌, ◌++◌, ◌&&◌, ◌||◌, ◌⊎◌, inl, inr, sym, ◌∙◌, ap, subst, refl, append_assoc, append-nil}
+-- Tests of each element of a list with those before it, and what stands in lists of transactions.
+use Rattle.std.proofs.Common.{◌≡◌, ℕ, Bool, true, false, ◌&&◌, ◌||◌, ◌==◌, List, [], ◌∷◌, ◌++◌, inl, inr, ◌⊎◌, sym, ◌∙◌, ap, subst, refl, append_assoc, append-nil, eqb-true, eq-eqb}
 use Rattle.std.specs.List.{list_all, list_any}
+use Rattle.std.proofs.lemmas.Bool.{and_parts, and_from, or_left, or_right}
+use Rattle.tcs_terms.specs.declared.ids.TxId.{TxId}
+use Rattle.tcs_terms.specs.Logs.{same_txn}
+use Rattle.protocol.specs.Past.{after_past, with_past}
 use Rattle.protocol.specs.Invariant.Time.{StandsIn}
-use Rattle.protocol.specs.Past.{after_past, with_past, stands_before}
-use Rattle.protocol_laws.proofs.Standing.{StandsIn-right}
-use Rattle.tcs_terms.proofs.BoolLaws.{both}
 
--- a test that each element passes
-pub all-of : {X : Type 0} (f : X → Bool) (xs : List X) → ((x : X) → StandsIn x xs → f x ≡ true) → list_all f xs ≡ true
-all-of f [] h = refl
-all-of f (x ∷ xs) h = both (f x) (list_all f xs) (h x (inl refl)) (all-of f xs (λ y s. h y (inr s)))
+-- a test of all pairs, from one of each place
+all-after_past : {X : Type 0} (p : (List X × X) → Bool) (past xs : List X) → ((before : List X) (x : X) (after : List X) → xs ≡ before ++ (x ∷ after) → p (past ++ before, x) ≡ true) → list_all p (after_past past xs) ≡ true
+all-after_past p past [] h = refl
+all-after_past {X} p past (y ∷ ys) h =
+    and_from (p (past, y)) (list_all p (after_past (past ++ y ∷ []) ys))
+    (subst (λ zs. p (zs, y) ≡ true) (append-nil past) (h [] y ys refl))
+    (all-after_past p (past ++ y ∷ []) ys (λ before x after e. subst (λ zs. p (zs, x) ≡ true) (sym (append_assoc past (y ∷ []) before)) (h (y ∷ before) x after (ap (λ zs. y ∷ zs) e))))
 
--- a test that some element passes
-pub or-right : (a b : Bool) → b ≡ true → (a || b) ≡ true
-or-right true b h = refl
-or-right false b h = h
+pub all-with_past : {X : Type 0} (p : (List X × X) → Bool) (xs : List X) → ((before : List X) (x : X) (after : List X) → xs ≡ before ++ (x ∷ after) → p (before, x) ≡ true) → list_all p (with_past xs) ≡ true
+all-with_past p xs h = all-after_past p [] xs h
 
-pub or-left : (a b : Bool) → a ≡ true → (a || b) ≡ true
-or-left true b h = refl
-or-left false b h = absurd (cc h)
+-- a place that passes is among the pairs
+any-after_past : {X : Type 0} (p : (List X × X) → Bool) (past before : List X) (x : X) (after : List X) → p (past ++ before, x) ≡ true → list_any p (after_past past (before ++ (x ∷ after))) ≡ true
+any-after_past p past [] x after h = or_left (p (past, x)) (list_any p (after_past (past ++ x ∷ []) after)) (subst (λ zs. p (zs, x) ≡ true) (append-nil past) h)
+any-after_past p past (y ∷ before) x after h =
+    or_right (p (past, y)) (list_any p (after_past (past ++ y ∷ []) (before ++ (x ∷ after))))
+    (any-after_past p (past ++ y ∷ []) before x after (subst (λ zs. p (zs, x) ≡ true) (sym (append_assoc past (y ∷ []) before)) h))
 
-pub any-of : {X : Type 0} (f : X → Bool) (xs : List X) (x : X) → StandsIn x xs → f x ≡ true → list_any f xs ≡ true
-any-of f [] x s h = absurd s
-any-of f (y ∷ ys) x (inl e) h = or-left (f y) (list_any f ys) (ap f (sym e) ∙ h)
-any-of f (y ∷ ys) x (inr s) h = or-right (f y) (list_any f ys) (any-of f ys x s h)
+pub any-with_past : {X : Type 0} (p : (List X × X) → Bool) (before : List X) (x : X) (after : List X) → p (before, x) ≡ true → list_any p (with_past (before ++ (x ∷ after))) ≡ true
+any-with_past p before x after h = any-after_past p [] before x after h
 
-after_past-all : {X : Type 0} (p : (List X × X) → Bool) (past xs : List X) → ((before : List X) (x : X) (after : List X) → xs ≡ before ++ (x ∷ after) → p (past ++ before, x) ≡ true)
-    → list_all p (after_past past xs) ≡ true
-after_past-all p past [] h = refl
-after_past-all p past (x ∷ xs) h =
-    both (p (past, x)) (list_all p (after_past (past ++ x ∷ []) xs))
-    (subst (λ ys. p (ys, x) ≡ true) (append-nil past) (h [] x xs refl))
-    (after_past-all p (past ++ x ∷ []) xs (λ before y after e. subst (λ ys. p (ys, y) ≡ true) (sym (append_assoc past (x ∷ []) before)) (h (x ∷ before) y after (ap (λ ys. x ∷ ys) e))))
+-- an element that passes a test is one of those that do
+pub any-from : {X : Type 0} (p : X → Bool) (xs : List X) (x : X) → StandsIn x xs → p x ≡ true → list_any p xs ≡ true
+any-from p [] x s h = absurd s
+any-from p (y ∷ ys) x (inl e) h = or_left (p y) (list_any p ys) (subst (λ z. p z ≡ true) e h)
+any-from p (y ∷ ys) x (inr s) h = or_right (p y) (list_any p ys) (any-from p ys x s h)
 
--- a test of each element with those before it
-pub with_past-all : {X : Type 0} (p : (List X × X) → Bool) (xs : List X) → ((before : List X) (x : X) (after : List X) → xs ≡ before ++ (x ∷ after) → p (before, x) ≡ true)
-    → list_all p (with_past xs) ≡ true
-with_past-all p xs h = after_past-all p [] xs h
+-- an element that stands in a list stands between others
+pub record StandsBetween {X : Type 0} (x : X) (xs : List X) : Type 0 where
+  pub before : List X
+  pub after : List X
+  pub is : xs ≡ before ++ (x ∷ after)
 
--- whether an element that passes the second test stands behind one that passes the first
-abbrev stands_after : {X : Type 0} (first second : X → Bool) (past xs : List X) → Bool
-stands_after first second past xs = list_any (λ e. second e.1 && list_any first e.0) (after_past past xs)
+pub stands_between : {X : Type 0} (xs : List X) (x : X) → StandsIn x xs → StandsBetween x xs
+stands_between [] x s = absurd s
+stands_between (y ∷ ys) x (inl e) = record { before = []; after = ys; is = ap (λ z. z ∷ ys) (sym e) }
+stands_between (y ∷ ys) x (inr s) = let b : StandsBetween x ys = stands_between ys x s in record { before = y ∷ b.before; after = b.after; is = ap (λ zs. y ∷ zs) b.is }
 
-any-more : {X : Type 0} (f : X → Bool) (xs ys : List X) → list_any f xs ≡ true → list_any f (xs ++ ys) ≡ true
-any-more f [] ys h = absurd (cc h)
-any-more f (x ∷ xs) ys h = go (f x) h (any-more f xs ys)
-  where
-    go : (b : Bool) → (b || list_any f xs) ≡ true → (list_any f xs ≡ true → list_any f (xs ++ ys) ≡ true) → (b || list_any f (xs ++ ys)) ≡ true
-    go true k ih = refl
-    go false k ih = ih k
+-- transactions that a test takes for one are one
+pub same_txn-eq : (a b : TxId) → same_txn a b ≡ true → a ≡ b
+same_txn-eq a b h =
+    let p : ((a.home == b.home) ≡ true) × ((a.seq == b.seq) ≡ true) = and_parts (a.home == b.home) (a.seq == b.seq) h in
+    let home : a.home ≡ b.home = eqb-true a.home b.home p.0 in
+    let seq : a.seq ≡ b.seq = eqb-true a.seq b.seq p.1 in
+    let first : a ≡ record { home = b.home; seq = a.seq } = ap (λ (x : ℕ). record { home = x; seq = a.seq }) home in
+    first ∙ ap (λ (x : ℕ). record { home = b.home; seq = x }) seq
 
-any-last : {X : Type 0} (f : X → Bool) (xs : List X) (x : X) → f x ≡ true → list_any f (xs ++ x ∷ []) ≡ true
-any-last f [] x h = or-left (f x) false h
-any-last f (y ∷ ys) x h = or-right (f y) (list_any f (ys ++ x ∷ [])) (any-last f ys x h)
-
--- the first has come already
-behind : {X : Type 0} (first second : X → Bool) (past ys : List X) (y : X) → list_any first past ≡ true → StandsIn y ys → second y ≡ true → stands_after first second past ys ≡ true
-behind first second past [] y f s h = absurd s
-behind first second past (z ∷ zs) y f (inl e) h = or-left (second z && list_any first past) (stands_after first second (past ++ z ∷ []) zs) (both (second z) (list_any first past) (ap second (sym e) ∙ h) f)
-behind first second past (z ∷ zs) y f (inr s) h =
-    or-right (second z && list_any first past) (stands_after first second (past ++ z ∷ []) zs) (behind first second (past ++ z ∷ []) zs y (any-more first past (z ∷ []) f) s h)
-
-both_there : {X : Type 0} (first second : X → Bool) (past xs ys : List X) (x y : X) → StandsIn x xs → first x ≡ true → StandsIn y ys → second y ≡ true → stands_after first second past (xs ++ ys) ≡ true
-both_there first second past [] ys x y s f r g = absurd s
-both_there first second past (z ∷ zs) ys x y (inl e) f r g =
-    or-right (second z && list_any first past) (stands_after first second (past ++ z ∷ []) (zs ++ ys))
-    (behind first second (past ++ z ∷ []) (zs ++ ys) y (any-last first past z (ap first (sym e) ∙ f)) (StandsIn-right zs ys y r) g)
-both_there first second past (z ∷ zs) ys x y (inr s) f r g =
-    or-right (second z && list_any first past) (stands_after first second (past ++ z ∷ []) (zs ++ ys)) (both_there first second (past ++ z ∷ []) zs ys x y s f r g)
-
--- of two joined lists, what stands in the first stands before what stands in the second
-pub stands_before-joined : {X : Type 0} (first second : X → Bool) (xs ys : List X) (x y : X) → StandsIn x xs → first x ≡ true → StandsIn y ys → second y ≡ true → stands_before first second (xs ++ ys) ≡ true
-stands_before-joined first second xs ys x y s f r g = both_there first second [] xs ys x y s f r g
+pub same_txn-self : (a : TxId) → same_txn a a ≡ true
+same_txn-self a = and_from (a.home == a.home) (a.seq == a.seq) (eq-eqb a.home a.home refl) (eq-eqb a.seq a.seq refl)
