@@ -30,6 +30,8 @@ pub mod WithPast
 pub mod CorrectNotes
 pub mod Orders
 pub mod CorrectOrder
+pub mod CorrectOf
+pub mod Runs
 pub mod EffectOf
 pub mod ServesOf
 pub mod ChangeOf
