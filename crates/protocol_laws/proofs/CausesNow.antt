@@ -63,7 +63,7 @@ aborting-entry tests setup t earlier txn shard cause whole now begun =
 
 -- a row that clashes with the part of a payload, whose own payload is the part of its transaction's
 names_row : (tests : Tests) (setup : Deployment) (t : Moment) (earlier : List Note) (txn other : TxId) (shard : ℕ) (new : Accesses) (r : Row) → IsLawful tests
-    → DecidesNow tests setup t earlier txn (Abort shard (causes.Clash other)) → StandsIn shard (shards_of setup.shards new) → EntrySays setup.shards t.now.history shard r.entry
+    → DecidesNow tests setup t earlier txn (Abort shard (causes.Clash other)) → StandsIn shard (shards_of setup.shards new) → EntrySays setup.shards t shard r.entry
     → clashes tests r (part_in setup.shards shard new) ≡ true → r.entry.txn ≡ other → (other ≡ txn → ⊥) → NamesClash tests setup.shards earlier txn new shard other
 names_row tests setup t earlier txn other shard new r lawful now among says clash is differs = record { differs = differs; old = says.payload; begun = begun; fails = fails r.entry.payload refl clash says.part }
   where
@@ -91,8 +91,8 @@ clash_now tests setup t earlier txn other shard new lawful now begun =
         let p : Appended tests t a.found.accepted.config a.found.entry = now.holds.entries.appended a.found.accepted.config a.found.entry listed in
         let voted : vote_on_part tests p.node.rows (Some (part_in setup.shards shard new)) ≡ votes.Clash other = ap (λ o. vote_on_part tests p.node.rows o) (sym (has a.found.part)) ∙ sym p.vote ∙ vote in
         let r : ClashesWith tests p.node.rows (part_in setup.shards shard new) other = clash-row tests p.node.rows (part_in setup.shards shard new) other voted in
-        let w : WorldHolds setup t.now.history p.before = now.past.each p.before (inr (before-past t.now p.after p.before t.before p.later p.earlier p.moments)) in
-        let says : EntrySays setup.shards t.now.history shard r.row.entry = subst (λ m. EntrySays setup.shards t.now.history m r.row.entry) (p.shard ∙ a.found.accepted.of_shard) (w.rows p.node r.row p.there r.there) in
+        let w : WorldHolds setup t p.before = now.past.each p.before (inr (before-past t.now p.after p.before t.before p.later p.earlier p.moments)) in
+        let says : EntrySays setup.shards t shard r.row.entry = subst (λ m. EntrySays setup.shards t m r.row.entry) (p.shard ∙ a.found.accepted.of_shard) (w.rows p.node r.row p.there r.there) in
         names_row tests setup t earlier txn other shard new r.row lawful now a.among says r.clashes r.of_txn (λ e. (p.new r.row r.there).1 (r.of_txn ∙ e ∙ sym a.found.accepted.of_txn))
       where
         has : (a.found.entry.payload ≡ restricted setup.shards shard new) ⊎ ((a.found.entry.payload ≡ None) × StandsIn (Take txn) t.now.history) → a.found.entry.payload ≡ Some (part_in setup.shards shard new)

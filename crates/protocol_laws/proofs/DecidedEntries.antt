@@ -15,6 +15,7 @@ use Rattle.protocol.specs.History.{payload_in}
 use Rattle.protocol.specs.Invariant.{InvariantHolds}
 use Rattle.protocol.specs.Invariant.Decisions.{IsAcceptedIn, IsDecidedBy}
 use Rattle.protocol.specs.Invariant.Time.{Moment, StandsIn, WasNoted}
+use Rattle.protocol.specs.Invariant.Transactions.{FoundNothingBy}
 use Rattle.protocol.specs.Records.{Part}
 use Rattle.protocol_laws.proofs.AcceptedSays.{accepted-says}
 use Rattle.protocol_laws.proofs.PastKept.{EntrySays, PastHolds}
@@ -28,15 +29,16 @@ pub record DecidedEntry (n : ℕ) (t : Moment) (txn : TxId) (shard : ℕ) (whole
   pub accepted : IsAcceptedIn t txn shard entry
   pub part : (entry.payload ≡ restricted n shard whole) ⊎ ((entry.payload ≡ None) × StandsIn (Take txn) t.now.history)
   pub keeps : KeepsPayload entry.payload entry.vote
+  pub lost : entry.vote ≡ votes.Lost → FoundNothingBy t txn shard
 
 pub decided-entry : (tests : Tests) (setup : Deployment) (t : Moment) (txn : TxId) (decision : Decision) (whole : Accesses) (p : Part) → InvariantHolds tests setup t → PastHolds setup t
     → payload_in t.now.history txn ≡ Some whole → (d : IsDecidedBy setup.shards t txn decision) → StandsIn p d.parts → DecidedEntry setup.shards t txn p.shard whole p.entry
 decided-entry tests setup t txn decision whole p i past begun d s =
     let a : (entry : Preparation) × (p.entry ≡ Some entry) × IsAcceptedIn t txn p.shard entry = d.accepted p s in
-    go a (subst (λ m. EntrySays setup.shards t.now.history m a.0) a.2.of_shard (accepted-says tests setup t a.2.config a.0 i past a.2.accepted))
+    go a (subst (λ m. EntrySays setup.shards t m a.0) a.2.of_shard (accepted-says tests setup t a.2.config a.0 i past a.2.accepted))
   where
-    go : (a : (entry : Preparation) × (p.entry ≡ Some entry) × IsAcceptedIn t txn p.shard entry) → EntrySays setup.shards t.now.history p.shard a.0 → DecidedEntry setup.shards t txn p.shard whole p.entry
-    go a says = record { entry = a.0; is = a.1; accepted = a.2; part = part says.part; keeps = says.keeps }
+    go : (a : (entry : Preparation) × (p.entry ≡ Some entry) × IsAcceptedIn t txn p.shard entry) → EntrySays setup.shards t p.shard a.0 → DecidedEntry setup.shards t txn p.shard whole p.entry
+    go a says = record { entry = a.0; is = a.1; accepted = a.2; part = part says.part; keeps = says.keeps; lost = λ e. subst (λ m. FoundNothingBy t m p.shard) a.2.of_txn (says.lost e) }
       where
         same : says.payload ≡ whole
         same = let e : payload_in t.now.history a.0.txn ≡ Some whole = ap (λ m. payload_in t.now.history m) a.2.of_txn ∙ begun in cc (e, says.begun)
