@@ -8,3 +8,4 @@ pub mod TransactionsLast
 pub mod TransactionsPlaces
 pub mod TransactionsCame
 pub mod TransactionsNotes
+pub mod TransactionsRows
