@@ -9,3 +9,5 @@ pub mod TransactionsPlaces
 pub mod TransactionsCame
 pub mod TransactionsNotes
 pub mod TransactionsRows
+pub mod TransactionsReceived
+pub mod TransactionsRowsKept
