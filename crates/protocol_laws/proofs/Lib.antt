@@ -11,3 +11,5 @@ pub mod TransactionsNotes
 pub mod TransactionsRows
 pub mod TransactionsReceived
 pub mod TransactionsRowsKept
+pub mod TransactionsBegun
+pub mod TransactionsActing
