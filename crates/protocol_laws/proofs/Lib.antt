@@ -13,3 +13,7 @@ pub mod TransactionsReceived
 pub mod TransactionsRowsKept
 pub mod TransactionsBegun
 pub mod TransactionsActing
+pub mod TransactionsCases
+pub mod TransactionsSends
+pub mod TransactionsMessages
+pub mod Transactions
