@@ -17,3 +17,5 @@ pub mod TransactionsCases
 pub mod TransactionsSends
 pub mod TransactionsMessages
 pub mod Transactions
+pub mod DecisionsLast
+pub mod DecisionsAccepted
