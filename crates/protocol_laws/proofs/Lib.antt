@@ -19,3 +19,6 @@ pub mod TransactionsMessages
 pub mod Transactions
 pub mod DecisionsLast
 pub mod DecisionsAccepted
+pub mod DecisionsTaken
+pub mod DecisionsRows
+pub mod DecisionsMessages
