@@ -22,3 +22,6 @@ pub mod DecisionsAccepted
 pub mod DecisionsTaken
 pub mod DecisionsRows
 pub mod DecisionsMessages
+pub mod Decisions
+pub mod ReadingsLast
+pub mod Readings
