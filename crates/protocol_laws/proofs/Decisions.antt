@@ -10,7 +10,6 @@ use Rattle.tcs_terms.specs.declared.messages.Message.{Message}
 use Rattle.tcs_terms.specs.declared.messages.Message.TheVariants.{DecisionFor, NewState, OutcomeOf, StatePiece}
 use Rattle.tcs_terms.specs.declared.votes.Decision.{Decision}
 use Rattle.tcs_terms.specs.Logs.{same_txn}
-use Rattle.tcs_terms.specs.Places.{Membership}
 use Rattle.tcs_terms.specs.Setups.{Deployment}
 use Rattle.tcs_laws.specs.Certification.{Tests}
 use Rattle.protocol.specs.Outcomes.{Out}
@@ -28,7 +27,7 @@ use Rattle.protocol.specs.Invariant.Transactions.{TransactionsHold}
 use Rattle.protocol.specs.Invariant.Transfer.{TransferHolds}
 use Rattle.protocol.proofs.Lists.{StandsIn-append}
 use Rattle.protocol_laws.specs.Effect.{Effect}
-use Rattle.protocol_laws.specs.Effect.Effect.{Rests, Keeps}
+use Rattle.protocol_laws.specs.Effect.Effect.{Keeps}
 use Rattle.protocol_laws.specs.Turn.{Turn, Onward, GrewFrom}
 use Rattle.protocol_laws.proofs.OnwardOf.{onward_of}
 use Rattle.protocol_laws.proofs.DecisionsLast.{is_decided-on, is_behind-on, row_holds-on}
@@ -36,7 +35,7 @@ use Rattle.protocol_laws.proofs.DecisionsMessages.{acting_agrees, acting_decided
 use Rattle.protocol_laws.proofs.DecisionsRows.{acting_rows_hold}
 use Rattle.protocol_laws.proofs.DecisionsTaken.{MessageAgrees}
 use Rattle.protocol_laws.proofs.TransactionsActing.{Acting, acting_of}
-use Rattle.protocol_laws.proofs.TransactionsCame.{Acted, IsServed, NodeCame, MessageCame, NoteCame, node_came, message_came, note_came}
+use Rattle.protocol_laws.proofs.TransactionsCame.{IsServed, NodeCame, MessageCame, NoteCame, node_came, message_came, note_came}
 use Rattle.protocol_laws.proofs.TransactionsCame.IsServed.{ServesStored, ServesChange, ServesNotice}
 use Rattle.protocol_laws.proofs.TransactionsCame.NodeCame.{WasThere, HasActed}
 use Rattle.protocol_laws.proofs.TransactionsCame.MessageCame.{WasThereBefore, NodeSent, ServiceSent}
@@ -73,9 +72,9 @@ old_agrees setup t u from name m o d s = go m s
   where
     go : (m : Message) → WasSent t from name m → MessageAgrees u name m
     go (DecisionFor epoch slot txn commit) s = λ node n e. (
-      let g : GrewFrom t node = o.back node n in
-      let b : IsBehind t g.old.shard epoch slot txn commit = d.told from epoch slot txn commit g.old g.is (subst (λ (x : ℕ). WasSent t from x (DecisionFor epoch slot txn commit)) (sym e ∙ g.grows.name) s) in
-      is_behind-on t u node.shard epoch slot txn commit o (subst (λ x. IsBehind t x epoch slot txn commit) (sym g.grows.shard) b))
+        let g : GrewFrom t node = o.back node n in
+        let b : IsBehind t g.old.shard epoch slot txn commit = d.told from epoch slot txn commit g.old g.is (subst (λ (x : ℕ). WasSent t from x (DecisionFor epoch slot txn commit)) (sym e ∙ g.grows.name) s) in
+        is_behind-on t u node.shard epoch slot txn commit o (subst (λ x. IsBehind t x epoch slot txn commit) (sym g.grows.shard) b))
     go (NewState c rows) s = λ r k. row_holds-on t u c.shard c.epoch r o (d.state from name c rows r s k)
     go (StatePiece c number pieces rows) s = λ r k. row_holds-on t u c.shard c.epoch r o (d.pieces from name number pieces c rows r s k)
     go (OutcomeOf txn decision) s = noted-on t u (notes.Decide txn decision) o (d.outcomes from name txn decision s)
@@ -114,7 +113,7 @@ rows_hold tests setup t event h turn configurations node r n s = go (node_came t
     go (WasThere k) = row_holds-on t (goes_to t h.after) node.shard node.state r (onward_of tests setup t event h turn) (turn.before.decisions.rows node r k s)
     go (HasActed a e) =
         let holds : RowHolds (goes_to t h.after) a.node.shard a.out.kept.state r =
-            acting_rows_hold tests setup.version setup t (goes_to t h.after) a.node a.input a.out r (acting_of tests setup t event h turn configurations a) a.effect (subst (λ (x : NodeRecord). StandsIn r x.rows) e s) in
+        acting_rows_hold tests setup.version setup t (goes_to t h.after) a.node a.input a.out r (acting_of tests setup t event h turn configurations a) a.effect (subst (λ (x : NodeRecord). StandsIn r x.rows) e s) in
         subst (λ (x : NodeRecord). RowHolds (goes_to t h.after) x.shard x.state r) (sym e)
         (subst (λ x. RowHolds (goes_to t h.after) x a.out.kept.state r) (sym (kept_shard tests setup.version a.node a.input a.out a.effect)) holds)
 

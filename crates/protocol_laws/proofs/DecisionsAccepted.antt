@@ -1,6 +1,5 @@
 -- A part of a case that is complete has an entry that every member of its view held.
-use Rattle.std.proofs.Common.{◌≡◌, ℕ, Bool, true, false, cond, not, List, [], ◌∷◌, ◌++◌, map, filter, Option, Some, None, ◌==◌, ◌⊎◌, inl, inr, sym, ◌∙◌, ap, ap₂, subst, refl, eqb-true}
-use Rattle.std.specs.List.{list_all}
+use Rattle.std.proofs.Common.{◌≡◌, ℕ, Bool, true, false, cond, not, List, [], ◌∷◌, ◌++◌, map, Option, Some, None, ◌==◌, inl, inr, sym, ◌∙◌, ap, ap₂, subst, refl, eqb-true}
 use Rattle.tcs_terms.specs.declared.ids.TxId.{TxId}
 use Rattle.tcs_terms.specs.declared.inputs.Input.{Input}
 use Rattle.tcs_terms.specs.declared.inputs.Input.TheVariants as inputs
@@ -9,7 +8,7 @@ use Rattle.tcs_terms.specs.Places.{Membership, is_among}
 use Rattle.tcs_terms.specs.Preparations.{Preparation}
 use Rattle.tcs_terms.specs.Setups.{Deployment}
 use Rattle.tcs_laws.specs.Certification.{Tests}
-use Rattle.protocol.specs.Cases.{part_of, put_part, all_acknowledge, is_complete_by, is_complete}
+use Rattle.protocol.specs.Cases.{put_part, all_acknowledge, is_complete_by}
 use Rattle.protocol.specs.Coordination.{case_of, with_part, first_entry, voted, voted_at, acknowledged, add_once}
 use Rattle.protocol.specs.Outcomes.{Out}
 use Rattle.protocol.specs.Records.{Part, Case, NodeRecord}
@@ -34,6 +33,7 @@ all_held tests setup t txn v entry acks i stored listed acknowledges all = recor
     followed name member a =
         let same : a.entry ≡ entry = i.entries.slots v a.entry entry (i.transfer.at_most v name a.entry stored member a.held) listed a.at_slot in
         subst (λ x. Held t v.epoch name x) same a.held
+
     held : (name : ℕ) (b : Bool) → StandsIn name v.members → (name == v.leader) ≡ b → Held t v.epoch name entry
     held name true member e = subst (λ x. Held t v.epoch x entry) (sym (eqb-true name v.leader e)) listed.held
     held name false member e =
@@ -59,7 +59,10 @@ complete_part tests setup t views txn p i stored = go (view_of views p.shard) p.
     go (Some v) None a b k c = absurd (cc c)
     go None (Some entry) a b k c = absurd k
     go (Some v) (Some entry) a b k c = record {
-      entry = entry; view = v; voted = b; sees = a;
+      entry = entry;
+      view = v;
+      voted = b;
+      sees = a;
       accepted = all_held tests setup t txn v entry p.acks i (stored v a) k.0 k.2 c;
       of_txn = k.1;
     }
@@ -112,6 +115,7 @@ acknowledged_part t txn view from slot (Some x) acks h e k = (k.0, k.1, λ name 
   where
     now : HeldAt t view.epoch from x.slot txn
     now = subst (λ s. HeldAt t view.epoch from s txn) (sym (eqb-true x.slot slot e)) h
+
     go : (b : Bool) (name : ℕ) → StandsIn name (cond b acks (acks ++ from ∷ [])) → HeldAt t view.epoch name x.slot txn
     go true name s = k.2 name s
     go false name s = elim (StandsIn-append acks (from ∷ []) name s) [ inl r ↦ k.2 name r | inr (inl q) ↦ subst (λ n. HeldAt t view.epoch n x.slot txn) (sym q) now | inr (inr r) ↦ absurd r ]

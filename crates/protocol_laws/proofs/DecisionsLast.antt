@@ -1,13 +1,11 @@
 -- What is so of decisions stays so.
-use Rattle.std.proofs.Common.{◌≡◌, ℕ, ◌≤◌, Bool, Some, sym, subst, le_trans}
+use Rattle.std.proofs.Common.{◌≡◌, ℕ, ◌≤◌, Bool, Some, le_trans}
 use Rattle.tcs_terms.specs.declared.ids.TxId.{TxId}
 use Rattle.tcs_terms.specs.declared.logs.Row.{Row}
 use Rattle.tcs_terms.specs.declared.votes.Decision.{Decision}
 use Rattle.tcs_terms.specs.Preparations.{Preparation}
-use Rattle.protocol.specs.Log.{mark_of}
-use Rattle.protocol.specs.Records.{Part}
 use Rattle.protocol.specs.Invariant.Decisions.{IsAcceptedIn, IsDecidedBy, IsBehind, RowHolds}
-use Rattle.protocol.specs.Invariant.Time.{Moment, StandsIn}
+use Rattle.protocol.specs.Invariant.Time.{Moment}
 use Rattle.protocol_laws.specs.Turn.{Onward}
 use Rattle.protocol_laws.proofs.Lasting.{accepted-on}
 use Rattle.protocol_laws.proofs.TransactionsLast.{Goes, is_begun-on, noted-on}
@@ -27,18 +25,31 @@ is_decided-on n t u txn decision g d = record {
 
 pub is_behind-on : (t u : Moment) (shard epoch slot : ℕ) (txn : TxId) (commit : Bool) → Onward t u → IsBehind t shard epoch slot txn commit → IsBehind u shard epoch slot txn commit
 is_behind-on t u shard epoch slot txn commit o b = record {
-  decision = b.decision; noted = noted-on t u _ o b.noted; sense = b.sense;
-  entry = b.entry; config = b.config; of_shard = b.of_shard; until = b.until;
+  decision = b.decision;
+  noted = noted-on t u _ o b.noted;
+  sense = b.sense;
+  entry = b.entry;
+  config = b.config;
+  of_shard = b.of_shard;
+  until = b.until;
   accepted = accepted-on t u b.config b.entry o b.accepted;
-  at_slot = b.at_slot; of_txn = b.of_txn;
+  at_slot = b.at_slot;
+  of_txn = b.of_txn;
 }
 
 -- a decision behind what stands in an epoch is behind what stands in a later one
 pub is_behind-later : (t : Moment) (shard epoch later slot : ℕ) (txn : TxId) (commit : Bool) → epoch ≤ later → IsBehind t shard epoch slot txn commit → IsBehind t shard later slot txn commit
 is_behind-later t shard epoch later slot txn commit l b = record {
-  decision = b.decision; noted = b.noted; sense = b.sense;
-  entry = b.entry; config = b.config; of_shard = b.of_shard; until = le_trans b.until l;
-  accepted = b.accepted; at_slot = b.at_slot; of_txn = b.of_txn;
+  decision = b.decision;
+  noted = b.noted;
+  sense = b.sense;
+  entry = b.entry;
+  config = b.config;
+  of_shard = b.of_shard;
+  until = le_trans b.until l;
+  accepted = b.accepted;
+  at_slot = b.at_slot;
+  of_txn = b.of_txn;
 }
 
 pub row_holds-on : (t u : Moment) (shard epoch : ℕ) (r : Row) → Onward t u → RowHolds t shard epoch r → RowHolds u shard epoch r

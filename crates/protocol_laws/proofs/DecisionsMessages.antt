@@ -1,10 +1,9 @@
 -- What a node that acts tells of decisions agrees with decisions that were taken.
-use Rattle.std.proofs.Common.{◌≡◌, ℕ, ◌≤◌, Bool, true, false, not, List, [], ◌∷◌, ◌++◌, map, filter, flat_map, length, Option, Some, None, option_and_then, ◌==◌, ◌⊎◌, inl, inr, sym, ◌∙◌, ap, subst, refl}
+use Rattle.std.proofs.Common.{◌≡◌, ℕ, Bool, true, false, not, List, [], ◌∷◌, map, filter, flat_map, length, Option, Some, None, option_and_then, ◌==◌, inl, inr, sym, subst, refl}
 use Rattle.std.specs.List.{range_with_len}
 use Rattle.tcs_terms.specs.declared.ids.TxId.{TxId}
 use Rattle.tcs_terms.specs.declared.inputs.Input.{Input}
 use Rattle.tcs_terms.specs.declared.inputs.Input.TheVariants as inputs
-use Rattle.tcs_terms.specs.declared.inputs.Note.{Note}
 use Rattle.tcs_terms.specs.declared.inputs.Note.TheVariants as notes
 use Rattle.tcs_terms.specs.declared.logs.Row.{Row}
 use Rattle.tcs_terms.specs.declared.messages.Message.{Message}
@@ -16,7 +15,7 @@ use Rattle.tcs_terms.specs.Preparations.{Preparation}
 use Rattle.tcs_terms.specs.Setups.{Deployment}
 use Rattle.tcs_terms.specs.Shards.{restricted}
 use Rattle.tcs_laws.specs.Certification.{Tests}
-use Rattle.protocol.specs.Cases.{prepare, accept, send_part, send_case, decision_of}
+use Rattle.protocol.specs.Cases.{prepare, accept, send_part, send_case}
 use Rattle.protocol.specs.Choices.{when}
 use Rattle.protocol.specs.ClientRules.{next_txn}
 use Rattle.protocol.specs.Coordination.{with_part, first_entry, voted, voted_at, acknowledged, resend, ask_leader, has_part}
@@ -28,18 +27,17 @@ use Rattle.protocol.specs.ShardRules.{state_to}
 use Rattle.protocol.specs.Views.{view_of, followers}
 use Rattle.protocol.specs.Invariant.Decisions.{IsDecidedBy, RowHolds}
 use Rattle.protocol.specs.Invariant.Time.{Moment, StandsIn}
-use Rattle.protocol_laws.specs.Effect.{AreNotices, Sees, OpenPart, GoesOn, Effect}
+use Rattle.protocol_laws.specs.Effect.{AreNotices, Sees, OpenPart, Effect}
 use Rattle.protocol_laws.specs.Effect.AreNotices.{Silent, Notice}
 use Rattle.protocol_laws.specs.Effect.Sees.{Replaces}
-use Rattle.protocol_laws.specs.Effect.Effect.{Rests, Certifies, TakesOver, Nudges, Moves, Lowers, Reads, Asks, AnswersAgain, Appends, Votes, Acknowledges, Changes, Learns, Accepts, Marks, Promises, Chooses, FindsLow, Leads, Follows, Gathers, FollowsPieces}
+use Rattle.protocol_laws.specs.Effect.Effect.{Rests, Certifies, TakesOver, Nudges, Moves, Lowers, Reads, Asks, AnswersAgain, Appends, Votes, Acknowledges, Changes, Learns, Accepts, Promises, Chooses, Leads}
 use Rattle.protocol_laws.proofs.DecisionsAccepted.{votes_hold, acknowledges_hold, case_shards}
-use Rattle.protocol_laws.proofs.DecisionsLast.{row_holds-on, row_holds-later}
 use Rattle.protocol_laws.proofs.DecisionsRows.{acting_rows_hold}
 use Rattle.protocol_laws.proofs.DecisionsTaken.{MessageAgrees, SendsAgree, agree_both, agree_one, IsReady, goes_on_decided, goes_on_told}
 use Rattle.protocol_laws.proofs.TransactionsActing.{Acting}
 use Rattle.protocol_laws.proofs.TransactionsCases.{voted_case, acknowledged_case}
 use Rattle.protocol_laws.proofs.TransactionsLists.{IsImage, map-StandsIn, IsPiece, flat_map-StandsIn}
-use Rattle.protocol_laws.proofs.TransactionsMessages.{SaysNothing, AreSilent, one_silent, stage_silent, hears_silent, piece_row}
+use Rattle.protocol_laws.proofs.TransactionsMessages.{SaysNothing, AreSilent, stage_silent, hears_silent, piece_row}
 use Rattle.protocol_laws.proofs.TransactionsMessages.SaysNothing.{IsProbe, IsProbeAck, IsNewConfig, IsLast, IsAt, IsCas}
 
 nothing_agrees : (t : Moment) (name : ℕ) (m : Message) → SaysNothing m → MessageAgrees t name m
@@ -90,7 +88,7 @@ ask_agrees : (t : Moment) (c : Coordinator) (config : Membership) → SendsAgree
 unfolding ask_leader
 ask_agrees t c config o s =
     let i : IsPiece (λ (e : TxId × Case). prepare (length c.views) e.0 e.1 (Some config)) (filter (λ e. has_part e.1 config.shard) c.cases) o =
-        flat_map-StandsIn (λ (e : TxId × Case). prepare (length c.views) e.0 e.1 (Some config)) (filter (λ e. has_part e.1 config.shard) c.cases) o s in
+    flat_map-StandsIn (λ (e : TxId × Case). prepare (length c.views) e.0 e.1 (Some config)) (filter (λ e. has_part e.1 config.shard) c.cases) o s in
     prepare_agrees t (length c.views) i.source.0 i.source.1 (Some config) o i.within
 
 sees_agrees : (t : Moment) (c : Coordinator) (config : Membership) (new : Coordinator) (sends : List Outgoing) → Sees c config new sends → SendsAgree t sends
@@ -104,10 +102,12 @@ state_agrees t version c rows node f = go (version == 2)
   where
     piece : ℕ → Outgoing
     piece k = to node (StatePiece c k (piece_count rows) (piece_of rows k))
+
     pieces : SendsAgree t (map piece (range_with_len 1 (piece_count rows)))
     pieces o s =
         let m : IsImage piece (range_with_len 1 (piece_count rows)) o = map-StandsIn piece (range_with_len 1 (piece_count rows)) o s in
         subst (λ x. MessageAgrees t x.to x.message) (sym m.is) (λ r k. f r (piece_row rows m.source r k))
+
     go : (b : Bool) → SendsAgree t (when b (map piece (range_with_len 1 (piece_count rows))) (to node (NewState c rows) ∷ []))
     go true = pieces
     go false = agree_one t (to node (NewState c rows)) f

@@ -1,13 +1,12 @@
 -- The marks of a node's rows have decisions behind them, after it acted.
-use Rattle.std.proofs.Common.{◌≡◌, ℕ, ◌<◌, ◌≤◌, Bool, true, false, List, [], ◌∷◌, ◌++◌, map, find, Option, Some, None, ◌&&◌, ◌==◌, nat_lt, ltb-true, ◌⊎◌, inl, inr, sym, ◌∙◌, ap, subst, refl, arith, eqb-true, le_of_eq}
+use Rattle.std.proofs.Common.{◌≡◌, ℕ, ◌<◌, Bool, true, false, List, [], ◌∷◌, map, Option, Some, None, ◌==◌, nat_lt, ltb-true, inl, inr, sym, ◌∙◌, ap, subst, refl, arith, eqb-true}
 use Rattle.tcs_terms.specs.declared.ids.TxId.{TxId}
 use Rattle.tcs_terms.specs.declared.inputs.Input.{Input}
-use Rattle.tcs_terms.specs.declared.inputs.Input.TheVariants as inputs
 use Rattle.tcs_terms.specs.declared.logs.Mark.{Mark}
 use Rattle.tcs_terms.specs.declared.logs.Mark.TheVariants.{Undecided, Committed, Aborted}
 use Rattle.tcs_terms.specs.declared.logs.Row.{Row}
-use Rattle.tcs_terms.specs.declared.messages.Message.TheVariants.{Prepare, Accept, DecisionFor, NewState, StatePiece}
-use Rattle.tcs_terms.specs.Logs.{same_txn, AreRows}
+use Rattle.tcs_terms.specs.declared.messages.Message.TheVariants.{DecisionFor, NewState, StatePiece}
+use Rattle.tcs_terms.specs.Logs.{AreRows}
 use Rattle.tcs_terms.specs.Order.{ascends}
 use Rattle.tcs_terms.specs.Places.{Membership}
 use Rattle.tcs_terms.specs.Preparations.{Preparation}
@@ -15,7 +14,7 @@ use Rattle.tcs_terms.specs.Setups.{Deployment}
 use Rattle.tcs_laws.specs.Certification.{Tests}
 use Rattle.protocol.specs.Log.{row_at, holds_txn, has_at, new_entry, undecided, first_mark, set_mark, mark_of}
 use Rattle.protocol.specs.Outcomes.{Out}
-use Rattle.protocol.specs.Records.{Gathering, Piece, NodeRecord}
+use Rattle.protocol.specs.Records.{NodeRecord}
 use Rattle.protocol.specs.Invariant.Decisions.{IsBehind, RowHolds}
 use Rattle.protocol.specs.Invariant.Time.{Moment, StandsIn, WasSent}
 use Rattle.protocol.proofs.FirstRoles.{and-left, and-right}
@@ -96,9 +95,9 @@ came_holds tests setup t u node _ out r a (WasMarked from epoch slot txn commit 
     let told : IsBehind t node.shard epoch slot txn commit = a.before.decisions.told from epoch slot txn commit node a.is (a.received from (DecisionFor epoch slot txn commit) refl) in
     let of : old.entry.txn ≡ txn = at_slot_is node.rows slot txn old (a.before.promises.rows node a.is) has s at in
     let behind : IsBehind u node.shard node.state old.entry.slot old.entry.txn commit = is_behind-later u node.shard epoch node.state old.entry.slot old.entry.txn commit low
-      (subst (λ y. IsBehind u node.shard epoch old.entry.slot y commit) (sym of) (subst (λ y. IsBehind u node.shard epoch y txn commit) (sym at) (is_behind-on t u node.shard epoch slot txn commit a.goes.onward told))) in
+    (subst (λ y. IsBehind u node.shard epoch old.entry.slot y commit) (sym of) (subst (λ y. IsBehind u node.shard epoch y txn commit) (sym at) (is_behind-on t u node.shard epoch slot txn commit a.goes.onward told))) in
     let holds : RowHolds u node.shard node.state (set_mark (mark_of commit) old) =
-        set_mark_holds u node.shard node.state commit old (row_holds-on t u node.shard node.state old a.goes.onward (a.before.decisions.rows node old a.is s)) behind in
+    set_mark_holds u node.shard node.state commit old (row_holds-on t u node.shard node.state old a.goes.onward (a.before.decisions.rows node old a.is s)) behind in
     subst (λ e. RowHolds u node.shard e r) (sym state) (subst (λ x. RowHolds u node.shard node.state x) (sym is) holds)
 came_holds tests setup t u node _ out r a (WasAppended from epoch txn shards part lead none rows is) = subst (λ x. RowHolds u node.shard out.kept.state x) (sym is) (undecided_holds u node.shard out.kept.state (new_entry tests node.rows txn shards part))
 came_holds tests setup t u node _ out r a (WasAccepted from epoch entry is) = subst (λ x. RowHolds u node.shard out.kept.state x) (sym is) (undecided_holds u node.shard out.kept.state entry)

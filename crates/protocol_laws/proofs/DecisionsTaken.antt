@@ -1,5 +1,5 @@
 -- A case that goes on to its decision: accepted entries stand behind it, and what is told agrees with it.
-use Rattle.std.proofs.Common.{◌≡◌, ℕ, ◌≤◌, Bool, true, false, List, [], ◌∷◌, ◌++◌, map, flat_map, Option, Some, None, ◌⊎◌, inl, inr, sym, ◌∙◌, ap, subst, refl, le_refl}
+use Rattle.std.proofs.Common.{◌≡◌, ℕ, true, List, [], ◌∷◌, ◌++◌, map, flat_map, Some, inl, inr, sym, ◌∙◌, subst, refl, le_refl}
 use Rattle.tcs_terms.specs.declared.ids.TxId.{TxId}
 use Rattle.tcs_terms.specs.declared.inputs.Input.{Input}
 use Rattle.tcs_terms.specs.declared.inputs.Note.{Note}
@@ -9,16 +9,13 @@ use Rattle.tcs_terms.specs.declared.messages.Message.{Message}
 use Rattle.tcs_terms.specs.declared.messages.Message.TheVariants.{Prepare, PrepareAck, Accept, AcceptAck, DecisionFor, Probe, ProbeAck, NewConfig, NewState, ConfigChange, Last, At, Cas, Stored, OutcomeOf, Refused, StatePiece}
 use Rattle.tcs_terms.specs.declared.messages.Outgoing.{Outgoing}
 use Rattle.tcs_terms.specs.declared.votes.Decision.{Decision}
-use Rattle.tcs_terms.specs.Places.{Membership}
-use Rattle.tcs_terms.specs.Preparations.{Preparation}
 use Rattle.tcs_terms.specs.Setups.{Deployment}
 use Rattle.tcs_laws.specs.Certification.{Tests}
 use Rattle.protocol.specs.Cases.{is_complete_by, is_complete, decision_of, commits, tell_members, tell_decision}
-use Rattle.protocol.specs.Coordination.{with_part}
 use Rattle.protocol.specs.Outcomes.{Out, to}
 use Rattle.protocol.specs.Records.{Part, Case, Coordinator, NodeRecord}
 use Rattle.protocol.specs.Views.{view_of}
-use Rattle.protocol.specs.Invariant.Decisions.{IsAcceptedIn, IsDecidedBy, IsBehind, RowHolds}
+use Rattle.protocol.specs.Invariant.Decisions.{IsDecidedBy, IsBehind, RowHolds}
 use Rattle.protocol.specs.Invariant.Logs.{Accepted}
 use Rattle.protocol.specs.Invariant.Time.{Moment, StandsIn, IsNode, WasNoted}
 use Rattle.protocol.specs.Invariant.Transactions.{CaseFits}
@@ -28,7 +25,7 @@ use Rattle.protocol_laws.specs.Effect.GoesOn.{Waiting, Decides}
 use Rattle.protocol_laws.proofs.Lasting.{accepted-on}
 use Rattle.protocol_laws.proofs.DecisionsAccepted.{IsAcceptedPart, complete_part, PartsHold}
 use Rattle.protocol_laws.proofs.TransactionsActing.{Acting}
-use Rattle.protocol_laws.proofs.TransactionsLists.{IsImage, map-StandsIn, IsPiece, flat_map-StandsIn, StandsIn-right}
+use Rattle.protocol_laws.proofs.TransactionsLists.{IsImage, map-StandsIn, IsPiece, flat_map-StandsIn}
 use Rattle.protocol_laws.proofs.TransactionsPlaces.{member_shard, view_is, IsView}
 
 -- what a message to a node tells of decisions agrees with decisions that were taken
@@ -83,9 +80,9 @@ ready_decided tests setup t u node input out txn case a r complete = record {
   parts = case.parts;
   shards = r.shards ∙ r.fits.shards;
   accepted = λ p s. (
-    let q : IsAcceptedPart t node.coordinator.views txn p = ready_part tests setup t u node input out txn case p a r complete s in
-    let v : IsView t p.shard q.view = view_is setup t node p.shard q.view a.before.configurations a.is q.sees in
-    (q.entry, q.voted, record { config = q.view; of_shard = v.of_shard; accepted = accepted-on t u q.view q.entry a.goes.onward q.accepted; of_txn = q.of_txn }));
+      let q : IsAcceptedPart t node.coordinator.views txn p = ready_part tests setup t u node input out txn case p a r complete s in
+      let v : IsView t p.shard q.view = view_is setup t node p.shard q.view a.before.configurations a.is q.sees in
+      (q.entry, q.voted, record { config = q.view; of_shard = v.of_shard; accepted = accepted-on t u q.view q.entry a.goes.onward q.accepted; of_txn = q.of_txn }));
   gives = refl;
 }
 
@@ -99,12 +96,19 @@ told_members tests setup t u node input out txn decision p a q noted =
     tells : SendsAgree u (tell_members txn (commits decision) (Some q.entry) (Some q.view))
     tells o s =
         let m : IsImage (λ node. to node (DecisionFor q.view.epoch q.entry.slot txn (commits decision))) q.view.members o =
-            map-StandsIn (λ node. to node (DecisionFor q.view.epoch q.entry.slot txn (commits decision))) q.view.members o s in
+        map-StandsIn (λ node. to node (DecisionFor q.view.epoch q.entry.slot txn (commits decision))) q.view.members o s in
         let accepted : Accepted u q.view q.entry = accepted-on t u q.view q.entry a.goes.onward q.accepted in
         subst (λ x. MessageAgrees u x.to x.message) (sym m.is) (λ at i e. record {
-          decision = decision; noted = noted; sense = refl; entry = q.entry; config = q.view;
+          decision = decision;
+          noted = noted;
+          sense = refl;
+          entry = q.entry;
+          config = q.view;
           of_shard = sym (member_shard setup u q.view at a.configurations accepted.stored (subst (λ x. StandsIn x q.view.members) (sym e) m.among) i);
-          until = le_refl q.view.epoch; accepted = accepted; at_slot = refl; of_txn = q.of_txn;
+          until = le_refl q.view.epoch;
+          accepted = accepted;
+          at_slot = refl;
+          of_txn = q.of_txn;
         })
 
 pub ready_told : (tests : Tests) (setup : Deployment) (t u : Moment) (node : NodeRecord) (input : Input) (out : Out NodeRecord) (txn : TxId) (case : Case) → Acting tests setup t u node input out → IsReady setup t u node txn case
@@ -113,8 +117,8 @@ unfolding tell_decision
 ready_told tests setup t u node input out txn case a r complete noted =
     agree_both u (flat_map members case.parts) (to txn.home (OutcomeOf txn (decision_of case.parts)) ∷ [])
     (λ o s.
-      let i : IsPiece members case.parts o = flat_map-StandsIn members case.parts o s in
-      told_members tests setup t u node input out txn (decision_of case.parts) i.source a (ready_part tests setup t u node input out txn case i.source a r complete i.among) noted o i.within)
+    let i : IsPiece members case.parts o = flat_map-StandsIn members case.parts o s in
+    told_members tests setup t u node input out txn (decision_of case.parts) i.source a (ready_part tests setup t u node input out txn case i.source a r complete i.among) noted o i.within)
     (agree_one u (to txn.home (OutcomeOf txn (decision_of case.parts))) noted)
   where
     members : Part → List Outgoing

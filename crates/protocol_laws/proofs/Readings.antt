@@ -12,7 +12,7 @@ use Rattle.protocol.specs.Cases.{decision_of}
 use Rattle.protocol.specs.ClientRules.{next_txn}
 use Rattle.protocol.specs.Outcomes.{Out}
 use Rattle.protocol.specs.Records.{Case, Coordinator, NodeRecord}
-use Rattle.protocol.specs.Versions.{Reading, nothing_read, read_of, value_or_empty}
+use Rattle.protocol.specs.Versions.{Reading, read_of, value_or_empty}
 use Rattle.protocol.specs.World.{Happening}
 use Rattle.protocol.specs.Invariant.{InvariantHolds}
 use Rattle.protocol.specs.Invariant.Answers.{AnswersHold}
@@ -22,15 +22,15 @@ use Rattle.protocol.specs.Invariant.Decisions.{DecisionsHold}
 use Rattle.protocol.specs.Invariant.Entries.{EntriesHold}
 use Rattle.protocol.specs.Invariant.Promises.{PromisesHold}
 use Rattle.protocol.specs.Invariant.Readings.{IsWrittenBefore, ReadingsHold}
-use Rattle.protocol.specs.Invariant.Time.{Moment, goes_to, StandsIn, IsNode}
+use Rattle.protocol.specs.Invariant.Time.{Moment, goes_to, IsNode}
 use Rattle.protocol.specs.Invariant.Transactions.{TransactionsHold}
 use Rattle.protocol.specs.Invariant.Transfer.{TransferHolds}
 use Rattle.protocol_laws.specs.Effect.{GoesOn, Effect}
 use Rattle.protocol_laws.specs.Effect.GoesOn.{Waiting, Decides}
-use Rattle.protocol_laws.specs.Effect.Effect.{Rests, Certifies, TakesOver, Reads, Votes, Acknowledges}
+use Rattle.protocol_laws.specs.Effect.Effect.{Certifies, TakesOver, Reads, Votes, Acknowledges}
 use Rattle.protocol_laws.specs.Turn.{Turn}
-use Rattle.protocol_laws.proofs.ReadingsLast.{IsReadFrom, is_reading, read_was_written}
-use Rattle.protocol_laws.proofs.TransactionsCame.{Acted, HistoryCame, history_came}
+use Rattle.protocol_laws.proofs.ReadingsLast.{is_reading, read_was_written}
+use Rattle.protocol_laws.proofs.TransactionsCame.{HistoryCame, history_came}
 use Rattle.protocol_laws.proofs.TransactionsCame.HistoryCame.{NothingNoted, NodeNotes}
 
 -- an element of two lists that are joined: what stands before it
@@ -45,6 +45,7 @@ stands_at {X = X} (z ∷ zs) ys (b ∷ bs) x after e = go (stands_at zs ys bs x 
   where
     head : z ≡ b
     head = cc e
+
     go : StandsAt zs ys bs x after → StandsAt (z ∷ zs) ys (b ∷ bs) x after
     go (InFirst rest q) = InFirst rest (ap₂ (λ w ws. w ∷ ws) head q)
     go (InSecond front p q) = InSecond front (ap₂ (λ w ws. w ∷ ws) (sym head) p) q
@@ -78,7 +79,7 @@ acting_reads : (tests : Tests) (v : ℕ) (node : NodeRecord) (input : Input) (ou
     → out.notes ≡ front ++ (notes.ReadValue name version value ∷ after) → IsRead node front name version value
 acting_reads tests v node _ _ front name version value after (Reads n h) e =
     let o : IsOnly (notes.ReadValue n (read_of node.rows n).version (value_or_empty (read_of node.rows n).value)) front (notes.ReadValue name version value) =
-        one_note (notes.ReadValue n (read_of node.rows n).version (value_or_empty (read_of node.rows n).value)) front (notes.ReadValue name version value) after e in
+    one_note (notes.ReadValue n (read_of node.rows n).version (value_or_empty (read_of node.rows n).value)) front (notes.ReadValue name version value) after e in
     let is : notes.ReadValue name version value ≡ notes.ReadValue n (read_of node.rows n).version (value_or_empty (read_of node.rows n).value) = o.is in
     let same : n ≡ name = cc is in
     record {

@@ -1,8 +1,7 @@
 -- What a node reads of an object is what a committed row writes, and so what a committed transaction wrote.
-use Rattle.std.proofs.Common.{◌≡◌, ℕ, ◌<◌, Bool, true, false, cond, List, [], ◌∷◌, ◌++◌, filter, find, fold, length, Option, Some, None, nat_lt, ◌&&◌, ◌==◌, ◌⊎◌, inl, inr, sym, ◌∙◌, ap, ap₂, subst, refl}
+use Rattle.std.proofs.Common.{◌≡◌, ℕ, Bool, true, false, cond, List, [], ◌∷◌, find, fold, length, Option, Some, None, nat_lt, ◌&&◌, ◌==◌, ◌⊎◌, inl, inr, sym, ◌∙◌, ap, ap₂, subst, refl}
 use Rattle.std.specs.Cmp.Lexicographic.{same_text}
 use Rattle.tcs_terms.specs.declared.ids.TxId.{TxId}
-use Rattle.tcs_terms.specs.declared.inputs.Note.{Note}
 use Rattle.tcs_terms.specs.declared.inputs.Note.TheVariants as notes
 use Rattle.tcs_terms.specs.declared.logs.Mark.{Mark}
 use Rattle.tcs_terms.specs.declared.logs.Mark.TheVariants.{Undecided, Committed, Aborted}
@@ -15,11 +14,11 @@ use Rattle.tcs_terms.specs.Setups.{Deployment}
 use Rattle.tcs_terms.specs.Shards.{part_in, restricted, lies_in}
 use Rattle.protocol.specs.Cases.{commits}
 use Rattle.protocol.specs.Records.{NodeRecord}
-use Rattle.protocol.specs.Versions.{Reading, nothing_read, newer_write, newer_part, newer_row, read_of, value_or_empty}
+use Rattle.protocol.specs.Versions.{Reading, nothing_read, newer_write, newer_row, read_of, value_or_empty}
 use Rattle.protocol.specs.Invariant.Decisions.{IsBehind, DecisionsHold}
 use Rattle.protocol.specs.Invariant.Readings.{IsWrittenBefore}
-use Rattle.protocol.specs.Invariant.Time.{Moment, StandsIn, IsNode, WasNoted}
-use Rattle.protocol.specs.Invariant.Transactions.{WasTaken, IsPart, EntryFits, TransactionsHold}
+use Rattle.protocol.specs.Invariant.Time.{Moment, StandsIn, IsNode}
+use Rattle.protocol.specs.Invariant.Transactions.{IsPart, EntryFits, TransactionsHold}
 use Rattle.protocol.proofs.Lists.{find-StandsIn}
 use Rattle.protocol_laws.proofs.TransactionsLists.{filter-StandsIn}
 
@@ -53,6 +52,7 @@ row_read rows name best r s k = go r.mark r.entry.payload refl refl
             let f : StandsIn w part.writes × (same_name w.name name ≡ true) = find-StandsIn (λ (x : WritePart). same_name x.name name) part.writes w e in
             inr (record { row = r; among = s; committed = c; part = part; has = p; write = w; writes = f.0; of_name = same_text w.name name (sym f.1); version = refl; value = refl })
         newer false = k
+
     go : (mark : Mark) (payload : Option Accesses) → r.mark ≡ mark → r.entry.payload ≡ payload → IsReading rows name (newer_row name best mark payload)
     go Undecided payload m p = k
     go Aborted payload m p = k

@@ -1,5 +1,5 @@
 -- One event keeps what is so of transactions.
-use Rattle.std.proofs.Common.{◌≡◌, ℕ, ◌⊎◌, sym, ap, subst}
+use Rattle.std.proofs.Common.{◌≡◌, ℕ, sym, ap, subst}
 use Rattle.tcs_terms.specs.declared.ids.TxId.{TxId}
 use Rattle.tcs_terms.specs.declared.inputs.Event.{Event}
 use Rattle.tcs_terms.specs.declared.logs.Row.{Row}
@@ -18,12 +18,12 @@ use Rattle.protocol.specs.Invariant.Transactions.{EntryFits, MessageFits, CaseFi
 use Rattle.protocol.specs.Invariant.Transfer.{TransferHolds}
 use Rattle.protocol_laws.specs.Turn.{Turn, GrewFrom}
 use Rattle.protocol_laws.proofs.TransactionsActing.{acting_of}
-use Rattle.protocol_laws.proofs.TransactionsCame.{Acted, IsServed, NodeCame, MessageCame, node_came, message_came}
+use Rattle.protocol_laws.proofs.TransactionsCame.{IsServed, NodeCame, MessageCame, node_came, message_came}
 use Rattle.protocol_laws.proofs.TransactionsCame.IsServed.{ServesStored, ServesChange, ServesNotice}
 use Rattle.protocol_laws.proofs.TransactionsCame.NodeCame.{WasThere, HasActed}
 use Rattle.protocol_laws.proofs.TransactionsCame.MessageCame.{WasThereBefore, NodeSent, ServiceSent}
 use Rattle.protocol_laws.proofs.TransactionsCases.{acting_cases}
-use Rattle.protocol_laws.proofs.TransactionsLast.{Goes, entry_fits-on, message_fits-on, case_fits-on}
+use Rattle.protocol_laws.proofs.TransactionsLast.{entry_fits-on, message_fits-on, case_fits-on}
 use Rattle.protocol_laws.proofs.TransactionsMessages.{acting_sends}
 use Rattle.protocol_laws.proofs.TransactionsNotes.{goes_of, numbers_kept, kept_shard}
 

@@ -1,5 +1,5 @@
 -- A transaction that a node begins has begun then, once.
-use Rattle.std.proofs.Common.{◌≡◌, ℕ, ◌+◌, ◌<◌, Bool, true, false, cond, List, [], ◌∷◌, ◌++◌, filter, length, Option, Some, None, is_some, ◌&&◌, ◌==◌, ◌⊎◌, inl, inr, sym, ◌∙◌, ap, subst, refl, arith, eq-eqb}
+use Rattle.std.proofs.Common.{◌≡◌, ◌+◌, ◌<◌, Bool, true, false, cond, List, [], ◌∷◌, ◌++◌, filter, length, Some, None, is_some, ◌&&◌, ◌==◌, ◌⊎◌, inl, inr, sym, ◌∙◌, ap, subst, refl, arith, eq-eqb}
 use Rattle.tcs_terms.specs.declared.ids.TxId.{TxId}
 use Rattle.tcs_terms.specs.declared.inputs.Event.{Event}
 use Rattle.tcs_terms.specs.declared.inputs.Note.{Note}
@@ -11,8 +11,8 @@ use Rattle.tcs_laws.specs.Certification.{Tests}
 use Rattle.protocol.specs.ClientRules.{next_txn}
 use Rattle.protocol.specs.History.{begins_with, payload_in, first_some}
 use Rattle.protocol.specs.Records.{NodeRecord}
-use Rattle.protocol.specs.World.{Happening, happens_at}
-use Rattle.protocol.specs.Invariant.Time.{Moment, goes_to, StandsIn, IsNode}
+use Rattle.protocol.specs.World.{Happening}
+use Rattle.protocol.specs.Invariant.Time.{Moment, goes_to, StandsIn}
 use Rattle.protocol.specs.Invariant.Transactions.{IsBegun}
 use Rattle.protocol_laws.specs.Turn.{Turn}
 use Rattle.protocol_laws.proofs.TransactionsCame.{Acted, acted_back}
@@ -63,6 +63,7 @@ begun_now tests setup t event h turn a payload e =
   where
     begins : BeginsNext a.node a.input a.out.kept (next_txn a.node) payload
     begins = begins_next tests setup.version a.node a.input a.out (next_txn a.node) payload a.effect (subst (λ ns. StandsIn (notes.Begin (next_txn a.node) payload) ns) (sym e) (inl refl))
+
     given : (node : NodeRecord) → node.name ≡ a.node.name → (node ≡ a.out.kept) ⊎ (StandsIn node t.now.nodes × (node.name ≡ a.out.kept.name → ⊥)) → a.node.next < node.next
     given node q (inl k) = let next : node.next ≡ a.node.next + 1 = ap (λ x. x.next) k ∙ begins.next in omega (arith, next)
     given node q (inr p) = absurd (p.1 (q ∙ sym (kept_name tests setup.version a.node a.input a.out a.effect)))

@@ -1,12 +1,10 @@
 -- The cases of a node fit, after it acted.
-use Rattle.std.proofs.Common.{◌≡◌, ℕ, Bool, true, false, cond, List, [], ◌∷◌, ◌++◌, map, length, Option, Some, None, ◌==◌, ◌⊎◌, inl, inr, sym, ◌∙◌, ap, subst, refl, eqb-true}
-use Rattle.std.specs.Map.{set_value, remove_entry}
+use Rattle.std.proofs.Common.{◌≡◌, ℕ, Bool, true, false, cond, List, [], ◌∷◌, map, length, Option, Some, None, ◌==◌, ◌⊎◌, inl, inr, sym, ◌∙◌, ap, subst, refl, eqb-true}
 use Rattle.tcs_terms.specs.declared.ids.TxId.{TxId}
 use Rattle.tcs_terms.specs.declared.inputs.Input.{Input}
 use Rattle.tcs_terms.specs.declared.inputs.Input.TheVariants as inputs
 use Rattle.tcs_terms.specs.declared.inputs.Note.TheVariants as notes
 use Rattle.tcs_terms.specs.declared.logs.Row.{Row}
-use Rattle.tcs_terms.specs.declared.messages.Message.{Message}
 use Rattle.tcs_terms.specs.declared.messages.Message.TheVariants.{PrepareAck}
 use Rattle.tcs_terms.specs.declared.messages.Outgoing.{Outgoing}
 use Rattle.tcs_terms.specs.Logs.{same_txn}
@@ -18,19 +16,19 @@ use Rattle.tcs_terms.specs.Shards.{shards_of}
 use Rattle.tcs_laws.specs.Certification.{Tests}
 use Rattle.protocol.specs.Cases.{asked, new_case, part_of, put_part}
 use Rattle.protocol.specs.ClientRules.{next_txn}
-use Rattle.protocol.specs.Coordination.{case_of, with_case, without_case, begins, with_part, first_entry, voted, acknowledged, ask_again, change_view}
+use Rattle.protocol.specs.Coordination.{begins, with_part, first_entry, voted, acknowledged, ask_again, change_view}
 use Rattle.protocol.specs.Log.{row_of}
 use Rattle.protocol.specs.Outcomes.{Out}
 use Rattle.protocol.specs.Records.{Part, Case, Coordinator, NodeRecord}
-use Rattle.protocol.specs.Invariant.Time.{Moment, StandsIn, WasNoted}
+use Rattle.protocol.specs.Invariant.Time.{Moment, StandsIn}
 use Rattle.protocol.specs.Invariant.Transactions.{IsBegun, WasTaken, EntryFits, CaseFits}
 use Rattle.protocol.proofs.Lists.{find-StandsIn, StandsIn-append}
 use Rattle.protocol_laws.specs.Effect.{Sees, OpenPart, GoesOn, Effect}
 use Rattle.protocol_laws.specs.Effect.Sees.{Replaces}
 use Rattle.protocol_laws.specs.Effect.GoesOn.{Waiting, Decides}
-use Rattle.protocol_laws.specs.Effect.Effect.{Rests, Certifies, TakesOver, Nudges, Moves, Lowers, Reads, Asks, AnswersAgain, Appends, Votes, Acknowledges, Changes, Learns, Accepts, Marks, Promises, Chooses, FindsLow, Leads, Follows, Gathers, FollowsPieces}
+use Rattle.protocol_laws.specs.Effect.Effect.{Certifies, TakesOver, Votes, Acknowledges, Changes, Learns}
 use Rattle.protocol_laws.proofs.TransactionsActing.{Acting}
-use Rattle.protocol_laws.proofs.TransactionsLast.{entry_fits-on, case_fits-on, is_begun-on, noted-on}
+use Rattle.protocol_laws.proofs.TransactionsLast.{entry_fits-on, case_fits-on, is_begun-on}
 use Rattle.protocol_laws.proofs.TransactionsLists.{IsImage, map-StandsIn, same_txn-eq, lookup-StandsIn, set_value-StandsIn, remove_entry-StandsIn}
 use Rattle.protocol_laws.proofs.TransactionsPlaces.{views_length}
 
@@ -49,6 +47,7 @@ put_part_came part parts p s = go (map-StandsIn (λ (q : Part). cond (q.shard ==
     at : (old : Part) (b : Bool) → StandsIn old parts → p ≡ cond b part old → StandsIn p parts ⊎ (p ≡ part)
     at old true k q = inr q
     at old false k q = inl (subst (λ x. StandsIn x parts) (sym q) k)
+
     go : IsImage (λ (q : Part). cond (q.shard == part.shard) part q) parts p → StandsIn p parts ⊎ (p ≡ part)
     go i = at i.source (i.source.shard == part.shard) i.among i.is
 
@@ -64,7 +63,10 @@ part_is parts shard part e =
 
 case_with_part : (n : ℕ) (t : Moment) (txn : TxId) (case : Case) (part : Part) → CaseFits n t txn case → PartFits n t part → CaseFits n t txn (with_part case part)
 case_with_part n t txn case part f k = record {
-  payload = f.payload; begun = f.begun; shards = f.shards; whole = f.whole;
+  payload = f.payload;
+  begun = f.begun;
+  shards = f.shards;
+  whole = f.whole;
   voted = λ p entry s e. elim (put_part_came part case.parts p s) [
     | inl r ↦ f.voted p entry r e
     | inr q ↦ subst (λ (x : Part). EntryFits n t x.shard entry) (sym q) (k entry (sym (ap (λ (x : Part). x.entry) q) ∙ e))
@@ -88,8 +90,8 @@ pub voted_fits : (n : ℕ) (t : Moment) (txn : TxId) (case : Case) (shard : ℕ)
 voted_fits n t txn case shard part entry f e g =
     let i : IsPartOf case.parts shard part = part_is case.parts shard part e in
     case_with_part n t txn case (voted part entry) f (λ x q.
-      let same : first_entry part.entry entry ≡ x = cc q in
-      subst (λ y. EntryFits n t part.shard y) same (subst (λ s. EntryFits n t s (first_entry part.entry entry)) (sym i.of_shard) (voted_entry n t txn case shard part entry f e g)))
+    let same : first_entry part.entry entry ≡ x = cc q in
+    subst (λ y. EntryFits n t part.shard y) same (subst (λ s. EntryFits n t s (first_entry part.entry entry)) (sym i.of_shard) (voted_entry n t txn case shard part entry f e g)))
 
 pub acknowledged_fits : (n : ℕ) (t : Moment) (txn : TxId) (case : Case) (shard : ℕ) (part : Part) (from : ℕ) → CaseFits n t txn case → part_of case.parts shard ≡ Some part → CaseFits n t txn (with_part case (acknowledged part from))
 acknowledged_fits n t txn case shard part from f e =
@@ -137,13 +139,17 @@ goes_on_fit n t c txn case sends _ k f (Decides h) x y s = k x y (remove_entry-S
 
 ask_again_fits : (n : ℕ) (t : Moment) (txn : TxId) (case : Case) (shard : ℕ) → CaseFits n t txn case → CaseFits n t txn (ask_again shard case)
 ask_again_fits n t txn case shard f = record {
-  payload = f.payload; begun = f.begun; shards = f.shards; whole = f.whole;
+  payload = f.payload;
+  begun = f.begun;
+  shards = f.shards;
+  whole = f.whole;
   voted = λ p entry s e. from p entry e (map-StandsIn (λ (q : Part). cond (q.shard == shard) (asked shard) q) case.parts p s);
 }
   where
     at : (p : Part) (entry : Preparation) (old : Part) (b : Bool) → p.entry ≡ Some entry → StandsIn old case.parts → p ≡ cond b (asked shard) old → EntryFits n t p.shard entry
     at p entry old true e s q = absurd (let z : p.entry ≡ None = ap (λ (x : Part). x.entry) q in cc (z, e))
     at p entry old false e s q = f.voted p entry (subst (λ x. StandsIn x case.parts) (sym q) s) e
+
     from : (p : Part) (entry : Preparation) → p.entry ≡ Some entry → IsImage (λ (q : Part). cond (q.shard == shard) (asked shard) q) case.parts p → EntryFits n t p.shard entry
     from p entry e i = at p entry i.source (i.source.shard == shard) e i.among i.is
 

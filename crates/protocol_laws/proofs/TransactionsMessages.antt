@@ -1,44 +1,42 @@
 -- What a node that acts sends says what is so of transactions.
-use Rattle.std.proofs.Common.{◌≡◌, ℕ, ◌+◌, ◌-◌, ◌*◌, Bool, true, false, cond, List, [], ◌∷◌, ◌++◌, map, flat_map, length, take, drop, Option, Some, None, ◌==◌, ◌⊎◌, inl, inr, sym, ◌∙◌, ap, subst, refl}
+use Rattle.std.proofs.Common.{◌≡◌, ℕ, ◌+◌, ◌-◌, ◌*◌, Bool, true, false, List, [], ◌∷◌, map, flat_map, drop, Some, ◌==◌, ◌⊎◌, inl, inr, sym, subst, refl}
 use Rattle.std.specs.List.{range_with_len}
 use Rattle.tcs_terms.specs.declared.ids.TxId.{TxId}
 use Rattle.tcs_terms.specs.declared.inputs.Input.{Input}
 use Rattle.tcs_terms.specs.declared.inputs.Input.TheVariants as inputs
-use Rattle.tcs_terms.specs.declared.inputs.Note.{Note}
 use Rattle.tcs_terms.specs.declared.limits.TheConstants.{MAX_PIECE_ROWS}
 use Rattle.tcs_terms.specs.declared.logs.Row.{Row}
 use Rattle.tcs_terms.specs.declared.messages.Message.{Message}
-use Rattle.tcs_terms.specs.declared.messages.Message.TheVariants.{Prepare, PrepareAck, Accept, AcceptAck, DecisionFor, Probe, ProbeAck, NewConfig, NewState, ConfigChange, Last, At, Cas, Stored, OutcomeOf, Refused, StatePiece}
+use Rattle.tcs_terms.specs.declared.messages.Message.TheVariants.{PrepareAck, Accept, AcceptAck, Probe, ProbeAck, NewConfig, NewState, ConfigChange, Last, At, Cas, Stored, Refused, StatePiece}
 use Rattle.tcs_terms.specs.declared.messages.Outgoing.{Outgoing}
 use Rattle.tcs_terms.specs.Logs.{same_txn}
 use Rattle.tcs_terms.specs.Places.{Membership}
-use Rattle.tcs_terms.specs.Preparations.{Preparation}
 use Rattle.tcs_terms.specs.Setups.{Deployment}
 use Rattle.tcs_laws.specs.Certification.{Tests}
 use Rattle.protocol.specs.Cases.{accept, decision_of, tell_decision}
 use Rattle.protocol.specs.Choices.{when}
 use Rattle.protocol.specs.ClientRules.{next_txn}
-use Rattle.protocol.specs.Coordination.{case_of, with_part, first_entry, voted, acknowledged, resend, ask_leader}
-use Rattle.protocol.specs.Log.{row_of, new_entry, undecided}
-use Rattle.protocol.specs.Outcomes.{Out, to, tells}
+use Rattle.protocol.specs.Coordination.{with_part, first_entry, voted, acknowledged, resend, ask_leader}
+use Rattle.protocol.specs.Log.{undecided}
+use Rattle.protocol.specs.Outcomes.{Out, to}
 use Rattle.protocol.specs.Pieces.{piece_count, piece_of}
 use Rattle.protocol.specs.Probing.{probe, ask_stage, tell_leader, proposed}
-use Rattle.protocol.specs.Records.{Part, Case, Coordinator, Stage, NodeRecord}
+use Rattle.protocol.specs.Records.{Case, Coordinator, Stage, NodeRecord}
 use Rattle.protocol.specs.Records.Stage.{Idle, AskedLast, Probing, AskedLower, CasSent}
 use Rattle.protocol.specs.ShardRules.{state_to}
-use Rattle.protocol.specs.Views.{view_of, followers}
-use Rattle.protocol.specs.Invariant.Time.{Moment, StandsIn, IsNode, IsStored, WasSent}
-use Rattle.protocol.specs.Invariant.Transactions.{HasBegun, EntryFits, MessageFits, CaseFits}
+use Rattle.protocol.specs.Views.{followers}
+use Rattle.protocol.specs.Invariant.Time.{Moment, StandsIn, IsStored}
+use Rattle.protocol.specs.Invariant.Transactions.{EntryFits, MessageFits, CaseFits}
 use Rattle.protocol.proofs.Lists.{find-StandsIn}
-use Rattle.protocol_laws.specs.Effect.{AreNotices, Sees, Hears, OpenPart, GoesOn, Effect}
+use Rattle.protocol_laws.specs.Effect.{AreNotices, Sees, Hears, GoesOn, Effect}
 use Rattle.protocol_laws.specs.Effect.AreNotices.{Silent, Notice}
 use Rattle.protocol_laws.specs.Effect.Sees.{Replaces}
 use Rattle.protocol_laws.specs.Effect.Hears.{Waits, ProbesLast, ProbesLower, IsDone}
 use Rattle.protocol_laws.specs.Effect.GoesOn.{Waiting, Decides}
-use Rattle.protocol_laws.specs.Effect.Effect.{Rests, Certifies, TakesOver, Nudges, Moves, Lowers, Reads, Asks, AnswersAgain, Appends, Votes, Acknowledges, Changes, Learns, Accepts, Marks, Promises, Chooses, FindsLow, Leads, Follows, Gathers, FollowsPieces}
+use Rattle.protocol_laws.specs.Effect.Effect.{Rests, Certifies, TakesOver, Nudges, Moves, Lowers, Asks, AnswersAgain, Appends, Votes, Acknowledges, Changes, Learns, Accepts, Promises, Chooses, Leads}
 use Rattle.protocol_laws.proofs.TransactionsActing.{Acting}
-use Rattle.protocol_laws.proofs.TransactionsCases.{CasesFit, acting_cases, old_cases_fit, voted_now, voted_case, acknowledged_case}
-use Rattle.protocol_laws.proofs.TransactionsLast.{entry_fits-on, has_begun-on}
+use Rattle.protocol_laws.proofs.TransactionsCases.{acting_cases, old_cases_fit, voted_now, voted_case, acknowledged_case}
+use Rattle.protocol_laws.proofs.TransactionsLast.{has_begun-on}
 use Rattle.protocol_laws.proofs.TransactionsLists.{IsImage, map-StandsIn, IsPiece, flat_map-StandsIn, take-StandsIn, drop-StandsIn, StandsIn-right}
 use Rattle.protocol_laws.proofs.TransactionsPlaces.{view_is, views_length, IsView}
 use Rattle.protocol_laws.proofs.TransactionsSends.{SendsFit, sends_both, sends_one, AreViews, case_sends, resends, accept_sends, leader_asked, decision_told}
@@ -117,10 +115,12 @@ state_fits n t version c rows node f = go (version == 2)
   where
     piece : ℕ → Outgoing
     piece k = to node (StatePiece c k (piece_count rows) (piece_of rows k))
+
     pieces : SendsFit n t (map piece (range_with_len 1 (piece_count rows)))
     pieces o s at i e =
         let m : IsImage piece (range_with_len 1 (piece_count rows)) o = map-StandsIn piece (range_with_len 1 (piece_count rows)) o s in
         subst (λ x. MessageFits n t at.shard x.message) (sym m.is) (λ r k. f r (piece_row rows m.source r k))
+
     go : (b : Bool) → SendsFit n t (when b (map piece (range_with_len 1 (piece_count rows))) (to node (NewState c rows) ∷ []))
     go true = pieces
     go false = sends_one n t (to node (NewState c rows)) (λ at i e. f)
@@ -173,7 +173,7 @@ acting_sends tests version setup t u node _ _ a (Appends from epoch txn shards p
 acting_sends tests version setup t u node _ _ a (Votes from shard epoch entry case part view o b c d out g) =
     goes_on_sends setup u node.coordinator entry.txn (with_part case (voted part entry)) (accept (first_entry part.entry entry) part.acks (Some view)) out
     (accept_sends setup u shard (first_entry part.entry entry) part.acks (Some view) a.configurations (voted_now tests setup t u node _ _ from shard epoch entry case part view a refl o)
-      (λ v e. (let same : view ≡ v = cc e in subst (λ x. IsView u shard x) same (views_are tests setup t u node _ _ a shard view o.sees))))
+    (λ v e. (let same : view ≡ v = cc e in subst (λ x. IsView u shard x) same (views_are tests setup t u node _ _ a shard view o.sees))))
     (voted_case tests setup t u node _ _ from shard epoch entry case part view a refl o) g
 acting_sends tests version setup t u node _ _ a (Acknowledges from shard epoch slot txn case part view o b c d out g) =
     goes_on_sends setup u node.coordinator txn (with_part case (acknowledged part from)) [] out (λ o s node i e. absurd s) (acknowledged_case tests setup t u node _ _ from shard txn case part view a o) g
@@ -185,8 +185,8 @@ acting_sends tests version setup t u node _ _ a (Learns from config coordinator 
     (silent_fit setup.shards u asked (hears_silent _ _ _ _ _ _ h))
 acting_sends tests version setup t u node _ _ a (Accepts from epoch entry p q r) =
     sends_one setup.shards u (to from (AcceptAck node.shard epoch entry.slot entry.txn)) (λ at i e. (
-      let f : EntryFits setup.shards t node.shard entry = a.before.transactions.messages from node (Accept epoch entry) a.is (a.received from (Accept epoch entry) refl) in
-      has_begun-on t u entry.txn a.goes (f.payload, f.begun)))
+    let f : EntryFits setup.shards t node.shard entry = a.before.transactions.messages from node (Accept epoch entry) a.is (a.received from (Accept epoch entry) refl) in
+    has_begun-on t u entry.txn a.goes (f.payload, f.begun)))
 acting_sends tests version setup t u node _ _ a (Promises from epoch l) = one_fits setup.shards u (to from (ProbeAck epoch node.state)) (IsProbeAck epoch node.state)
 acting_sends tests version setup t u node _ _ a (Chooses from state shard want epoch probed low p q r) = one_fits setup.shards u (to 0 (Cas (proposed node.name shard epoch want from))) (IsCas (proposed node.name shard epoch want from))
 acting_sends tests version setup t u node _ _ a (Leads from config shard role promised leader) =

@@ -1,16 +1,14 @@
 -- What a message that a node takes says of transactions is so.
-use Rattle.std.proofs.Common.{◌≡◌, ℕ, Bool, true, false, ◌&&◌, ap, subst, sym, refl}
+use Rattle.std.proofs.Common.{◌≡◌, ℕ, true, false, ap, subst, sym}
 use Rattle.tcs_terms.specs.declared.inputs.Event.{Event}
-use Rattle.tcs_terms.specs.declared.inputs.Event.TheVariants.{Call, DeliverNumber, Stop}
 use Rattle.tcs_terms.specs.declared.inputs.Input.{Input}
 use Rattle.tcs_terms.specs.declared.inputs.Input.TheVariants as inputs
 use Rattle.tcs_terms.specs.declared.messages.Message.{Message}
 use Rattle.tcs_terms.specs.Events.{event_fits, input_fits}
 use Rattle.tcs_terms.specs.Setups.{Deployment, has_node}
 use Rattle.tcs_laws.specs.Certification.{Tests}
-use Rattle.protocol.specs.Records.{NodeRecord}
 use Rattle.protocol.specs.World.{World, Sent, Happening}
-use Rattle.protocol.specs.Invariant.Time.{Moment, StandsIn, IsNode, WasSent}
+use Rattle.protocol.specs.Invariant.Time.{Moment, StandsIn, WasSent}
 use Rattle.protocol.specs.Invariant.Transactions.{MessageFits}
 use Rattle.protocol.proofs.FirstRoles.{and-right}
 use Rattle.protocol_laws.specs.Change.{Comes}
@@ -45,7 +43,7 @@ was_sent setup w name _ _ from m f (ByMessage number sender message sent is foun
 pub received : (tests : Tests) (setup : Deployment) (t : Moment) (event : Event) (h : Happening) (from : ℕ) (m : Message) → Turn tests setup t event h → (a : Acted tests setup.version t.now event h)
     → a.input ≡ inputs.Deliver from m → WasSent t from a.node.name m
 received tests setup t event h from m turn a e = record {
-  sent = subst (λ (x : ℕ). StandsIn (record { from = from; to = x; message = m }) t.now.messages) (sym a.named) (was_sent setup t.now a.name event a.input from m turn.fits a.comes e)
+  sent = subst (λ (x : ℕ). StandsIn (record { from = from; to = x; message = m }) t.now.messages) (sym a.named) (was_sent setup t.now a.name event a.input from m turn.fits a.comes e);
 }
 
 -- what it says of transactions was so

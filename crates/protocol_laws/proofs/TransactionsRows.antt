@@ -1,5 +1,5 @@
 -- Where each row of a node comes from, after it acted.
-use Rattle.std.proofs.Common.{◌≡◌, ℕ, ◌<◌, ◌≤◌, Bool, true, false, cond, not, List, [], ◌∷◌, ◌++◌, map, filter, flat_map, length, Option, Some, None, ◌&&◌, ◌||◌, ◌==◌, nat_lt, nat_le, ◌⊎◌, inl, inr, sym, ◌∙◌, ap, subst, refl, arith, eqb-true}
+use Rattle.std.proofs.Common.{◌≡◌, ℕ, ◌≤◌, Bool, true, false, cond, List, [], ◌∷◌, ◌++◌, filter, Option, Some, None, ◌&&◌, ◌==◌, nat_lt, ◌⊎◌, inl, inr, sym, ◌∙◌, ap, subst, refl, arith, eqb-true}
 use Rattle.std.specs.Cmp.Lexicographic.{pointwise}
 use Rattle.std.proofs.Common.{nat_eq}
 use Rattle.tcs_terms.specs.declared.ids.TxId.{TxId}
@@ -13,7 +13,7 @@ use Rattle.tcs_terms.specs.Preparations.{Preparation}
 use Rattle.tcs_laws.specs.Certification.{Tests}
 use Rattle.protocol.specs.Log.{row_of, new_entry, undecided, has_at, put_entry, accepted, set_mark, marked, mark_of}
 use Rattle.protocol.specs.Outcomes.{Out}
-use Rattle.protocol.specs.Pieces.{is_kept, with_piece, rows_of, fits, with_one_more, begun, is_gathering_of, takes_piece, gathering_for}
+use Rattle.protocol.specs.Pieces.{is_kept, with_piece, rows_of, with_one_more, begun, is_gathering_of, gathering_for}
 use Rattle.protocol.specs.Records.{Role, Gathering, Piece, NodeRecord}
 use Rattle.protocol.specs.Records.Role.{Fenced}
 use Rattle.protocol.specs.ShardRules.{is_leader, least}
@@ -22,7 +22,7 @@ use Rattle.protocol.specs.Invariant.Time.{StandsIn}
 use Rattle.protocol.proofs.FirstRoles.{and-left, and-right}
 use Rattle.protocol.proofs.Lists.{StandsIn-append}
 use Rattle.protocol_laws.specs.Effect.{Effect, MayFollow}
-use Rattle.protocol_laws.specs.Effect.Effect.{Rests, Certifies, TakesOver, Nudges, Moves, Lowers, Reads, Asks, AnswersAgain, Appends, Votes, Acknowledges, Changes, Learns, Keeps, Accepts, Marks, Promises, Chooses, FindsLow, Leads, Follows, Gathers, FollowsPieces}
+use Rattle.protocol_laws.specs.Effect.Effect.{Appends, Accepts, Marks, Leads, Follows, FollowsPieces}
 use Rattle.protocol_laws.proofs.TransactionsLists.{IsImage, map-StandsIn, filter-StandsIn, IsPiece, flat_map-StandsIn}
 
 -- A row that a node has after an input: it was there, got a mark, or came with the input or a piece that was kept.
@@ -54,6 +54,7 @@ one_more_came g piece p s = go (is_kept g.kept piece.number) s
       | inr (inl e) ↦ inl e
       | inr (inr k) ↦ inr (filter-StandsIn (λ (q : Piece). nat_lt piece.number q.number) g.kept p k).0
     ]
+
     go : (b : Bool) → StandsIn p (cond b g (record { config = g.config; pieces = g.pieces; kept = with_piece g.kept piece })).kept → (p ≡ piece) ⊎ StandsIn p g.kept
     go true k = inr k
     go false k = put k
@@ -90,6 +91,7 @@ accepted_came rows entry r s = go (has_at rows entry.slot entry.txn) s
       | inr (inl e) ↦ inr e
       | inr (inr k) ↦ inl (filter-StandsIn (λ (q : Row). nat_lt entry.slot q.entry.slot) rows r k).0
     ]
+
     go : (b : Bool) → StandsIn r (cond b rows (put_entry rows entry)) → StandsIn r rows ⊎ (r ≡ undecided entry)
     go true k = inl k
     go false k = put k
@@ -107,6 +109,7 @@ marked_came rows slot commit r s = go (map-StandsIn (λ (q : Row). cond (q.entry
     at : (old : Row) (b : Bool) → StandsIn old rows → (old.entry.slot == slot) ≡ b → r ≡ cond b (set_mark (mark_of commit) old) old → StandsIn r rows ⊎ IsMarked rows slot commit r
     at old true k e q = inr (record { old = old; among = k; at_slot = eqb-true old.entry.slot slot e; is = q })
     at old false k e q = inl (subst (λ x. StandsIn x rows) (sym q) k)
+
     go : IsImage (λ (q : Row). cond (q.entry.slot == slot) (set_mark (mark_of commit) q) q) rows r → StandsIn r rows ⊎ IsMarked rows slot commit r
     go i = at i.source (i.source.entry.slot == slot) i.among refl i.is
 
@@ -139,11 +142,14 @@ row_came tests version node _ _ r f (FollowsPieces from config number pieces row
   where
     piece : Piece
     piece = record { number = number; rows = rows }
+
     new : NodeRecord
     new = record node { role = Role.Follower config; state = config.epoch; promised = config.epoch; rows = rows_of gathering.kept; gathering = None }
+
     at : (p : Piece) → StandsIn r p.rows → PieceCame node.gathering config piece p → RowCame tests node new r (inputs.Deliver from (StatePiece config number pieces rows))
     at p k (IsNewPiece e) = WasInPiece from config number pieces rows (subst (λ q. StandsIn r q.rows) e k) may.shard refl
     at p k (IsOldPiece g e q shard epoch) = WasKept _ g p e q k (shard ∙ may.shard) epoch
+
     go : IsPiece (λ (p : Piece). p.rows) gathering.kept r → RowCame tests node new r (inputs.Deliver from (StatePiece config number pieces rows))
     go i = at i.source i.within (piece_came node.gathering config pieces piece i.source (subst (λ g. StandsIn i.source g.kept) is i.among))
 row_came tests version node _ _ r f _ s = WasThere _ s (omega arith)

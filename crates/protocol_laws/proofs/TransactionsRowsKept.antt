@@ -1,12 +1,10 @@
 -- Rows fit, one event later: a leader's new entry too.
-use Rattle.std.proofs.Common.{◌≡◌, ℕ, ◌≤◌, Bool, true, false, cond, not, is_none, List, [], ◌∷◌, ◌++◌, find, Option, Some, None, ◌⊎◌, inl, inr, sym, ◌∙◌, ap, subst, refl, arith}
+use Rattle.std.proofs.Common.{◌≡◌, ℕ, true, false, is_none, List, [], ◌∷◌, ◌++◌, find, Option, Some, None, sym, ap, subst, refl}
 use Rattle.tcs_terms.specs.declared.ids.TxId.{TxId}
 use Rattle.tcs_terms.specs.declared.inputs.Event.{Event}
 use Rattle.tcs_terms.specs.declared.inputs.Input.{Input}
-use Rattle.tcs_terms.specs.declared.inputs.Input.TheVariants as inputs
 use Rattle.tcs_terms.specs.declared.logs.Row.{Row}
-use Rattle.tcs_terms.specs.declared.messages.Message.TheVariants.{Prepare, Accept, DecisionFor, NewState, StatePiece}
-use Rattle.tcs_terms.specs.declared.votes.Vote.{Vote}
+use Rattle.tcs_terms.specs.declared.messages.Message.TheVariants.{Prepare, Accept, NewState, StatePiece}
 use Rattle.tcs_terms.specs.declared.votes.Vote.TheVariants as votes
 use Rattle.tcs_terms.specs.Payloads.{Accesses}
 use Rattle.tcs_terms.specs.Places.{Membership}
@@ -14,17 +12,16 @@ use Rattle.tcs_terms.specs.Preparations.{Preparation, is_lost}
 use Rattle.tcs_terms.specs.Setups.{Deployment}
 use Rattle.tcs_laws.specs.Certification.{Tests}
 use Rattle.tcs_laws.specs.Votes.{clashes, vote_by, vote_on}
-use Rattle.protocol.specs.Log.{row_of, new_entry, undecided, vote_on_part, mark_of, set_mark}
-use Rattle.protocol.specs.Records.{Gathering, Piece, NodeRecord}
+use Rattle.protocol.specs.Log.{row_of, new_entry, undecided, vote_on_part}
 use Rattle.protocol.specs.ShardRules.{is_leader}
 use Rattle.protocol.specs.World.{Happening}
-use Rattle.protocol.specs.Invariant.Time.{Moment, goes_to, StandsIn, IsNode, WasSent}
-use Rattle.protocol.specs.Invariant.Transactions.{HasBegun, FoundNothingBy, VoteNames, EntryFits, PrepareFits}
+use Rattle.protocol.specs.Invariant.Time.{Moment, goes_to, StandsIn, WasSent}
+use Rattle.protocol.specs.Invariant.Transactions.{HasBegun, VoteNames, EntryFits, PrepareFits}
 use Rattle.protocol.proofs.Lists.{find-StandsIn}
 use Rattle.protocol_laws.specs.Turn.{Turn}
 use Rattle.protocol_laws.proofs.TransactionsCame.{Acted, acted_there}
 use Rattle.protocol_laws.proofs.TransactionsLast.{Goes, is_begun-on, is_part-on, entry_fits-on, has_begun-on}
-use Rattle.protocol_laws.proofs.TransactionsNotes.{goes_of, kept_name, kept_shard}
+use Rattle.protocol_laws.proofs.TransactionsNotes.{goes_of, kept_name}
 use Rattle.protocol_laws.proofs.TransactionsReceived.{received_fits}
 use Rattle.protocol_laws.proofs.TransactionsRows.{RowCame, row_came}
 use Rattle.protocol_laws.proofs.TransactionsRows.RowCame.{WasThere, WasMarked, WasAppended, WasAccepted, WasWhole, WasInPiece, WasKept}
@@ -70,14 +67,27 @@ new_entry_fits tests setup t event h turn a txn shards part lead none rows f =
       part = is_part-on t (goes_to t h.after) setup.shards a.node.shard txn f.payload part g.onward f.is_part;
       keeps = keeps_payload tests a.node.rows part;
       lost = λ e. record {
-        later = []; after = h.after; before = t.now; earlier = t.before; moments = refl;
-        node = a.node; there = a.there; of_shard = refl; leads = lead; nothing = none;
-        grown = a.out.kept; grown_there = acted_there tests setup.version t.now event h a (kept_name tests setup.version a.node a.input a.out a.effect); grown_name = kept_name tests setup.version a.node a.input a.out a.effect;
-        entry = new_entry tests a.node.rows txn shards part; appended = rows; of_txn = refl; empty = lost_is_none tests a.node.rows part e;
+        later = [];
+        after = h.after;
+        before = t.now;
+        earlier = t.before;
+        moments = refl;
+        node = a.node;
+        there = a.there;
+        of_shard = refl;
+        leads = lead;
+        nothing = none;
+        grown = a.out.kept;
+        grown_there = acted_there tests setup.version t.now event h a (kept_name tests setup.version a.node a.input a.out a.effect);
+        grown_name = kept_name tests setup.version a.node a.input a.out a.effect;
+        entry = new_entry tests a.node.rows txn shards part;
+        appended = rows;
+        of_txn = refl;
+        empty = lost_is_none tests a.node.rows part e;
       };
       vote = part_vote_names tests (goes_to t h.after) a.node.rows part (λ r s.
-        let e : EntryFits setup.shards t a.node.shard r.entry = turn.before.transactions.rows a.node r a.there s in
-        has_begun-on t (goes_to t h.after) r.entry.txn g (e.payload, e.begun));
+          let e : EntryFits setup.shards t a.node.shard r.entry = turn.before.transactions.rows a.node r a.there s in
+          has_begun-on t (goes_to t h.after) r.entry.txn g (e.payload, e.begun));
     }
 
 -- each row of a node that acted fits
@@ -88,10 +98,13 @@ acted_rows_fit tests setup t event h turn a r s =
   where
     u : Moment
     u = goes_to t h.after
+
     on : (x : Preparation) → EntryFits setup.shards t a.node.shard x → EntryFits setup.shards (goes_to t h.after) a.node.shard x
     on x f = entry_fits-on setup.shards t (goes_to t h.after) a.node.shard x (goes_of tests setup t event h turn) f
+
     of_state : (c : Membership) → c.shard ≡ a.node.shard → EntryFits setup.shards t c.shard r.entry → EntryFits setup.shards (goes_to t h.after) a.node.shard r.entry
     of_state c e f = on r.entry (subst (λ k. EntryFits setup.shards t k r.entry) e f)
+
     go : (input : Input) → a.input ≡ input → RowCame tests a.node a.out.kept r input → EntryFits setup.shards (goes_to t h.after) a.node.shard r.entry
     go _ e (WasThere input k l) = on r.entry (turn.before.transactions.rows a.node r a.there k)
     go _ e (WasMarked from epoch slot txn commit old l q has k at is) =

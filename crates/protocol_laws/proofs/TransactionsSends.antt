@@ -1,11 +1,10 @@
 -- What a coordinator sends of a case that fits says what is so.
-use Rattle.std.proofs.Common.{◌≡◌, ℕ, Bool, true, false, not, List, [], ◌∷◌, ◌++◌, map, filter, flat_map, find, length, Option, Some, None, is_some, option_and_then, ◌&&◌, ◌==◌, ◌⊎◌, inl, inr, sym, ◌∙◌, ap, subst, refl}
+use Rattle.std.proofs.Common.{◌≡◌, ℕ, Bool, not, List, [], ◌∷◌, ◌++◌, filter, flat_map, find, length, Option, Some, None, is_some, option_and_then, ◌==◌, ◌⊎◌, inl, inr, sym, ◌∙◌, ap, subst, refl}
 use Rattle.tcs_terms.specs.declared.ids.TxId.{TxId}
 use Rattle.tcs_terms.specs.declared.messages.Message.TheVariants.{Prepare, Accept, DecisionFor, OutcomeOf}
 use Rattle.tcs_terms.specs.declared.messages.Outgoing.{Outgoing}
 use Rattle.tcs_terms.specs.declared.votes.Cause.{Cause}
 use Rattle.tcs_terms.specs.declared.votes.Cause.TheVariants as causes
-use Rattle.tcs_terms.specs.declared.votes.Decision.{Decision}
 use Rattle.tcs_terms.specs.declared.votes.Vote.{Vote}
 use Rattle.tcs_terms.specs.declared.votes.Vote.TheVariants as votes
 use Rattle.tcs_terms.specs.Payloads.{Accesses}
@@ -52,11 +51,14 @@ unfolding prepare
 prepare_sends setup t txn case None k f stored = λ o s node i e. absurd s
 prepare_sends setup t txn case (Some v) k f stored =
     sends_one setup.shards t (to v.leader (Prepare v.epoch txn case.shards (option_and_then (restricted setup.shards v.shard) case.payload))) (λ node i e.
-      let is : IsStored t v = stored v refl in
-      let at : node.shard ≡ v.shard = member_shard setup t v node k is (subst (λ x. StandsIn x v.members) (sym e) (leader_member setup t v k is)) i in
-      subst (λ shard. PrepareFits setup.shards t shard txn case.shards (option_and_then (restricted setup.shards v.shard) case.payload)) (sym at) (record {
-        payload = f.payload; begun = f.begun; of_shards = f.shards; is_part = whole_part setup.shards t v.shard txn f.payload case.payload f.whole
-      }))
+    let is : IsStored t v = stored v refl in
+    let at : node.shard ≡ v.shard = member_shard setup t v node k is (subst (λ x. StandsIn x v.members) (sym e) (leader_member setup t v k is)) i in
+    subst (λ shard. PrepareFits setup.shards t shard txn case.shards (option_and_then (restricted setup.shards v.shard) case.payload)) (sym at) (record {
+      payload = f.payload;
+      begun = f.begun;
+      of_shards = f.shards;
+      is_part = whole_part setup.shards t v.shard txn f.payload case.payload f.whole;
+    }))
 
 follower_member : (c : Membership) (node : ℕ) → StandsIn node (followers c) → StandsIn node c.members
 follower_member c node s = (filter-StandsIn (λ m. not (m == c.leader)) c.members node s).0
@@ -101,7 +103,7 @@ pub leader_asked : (setup : Deployment) (t : Moment) (c : Coordinator) (config :
 unfolding ask_leader
 leader_asked setup t c config k l stored f o s =
     let i : IsPiece (λ (e : TxId × Case). prepare (length c.views) e.0 e.1 (Some config)) (filter (λ e. has_part e.1 config.shard) c.cases) o =
-        flat_map-StandsIn (λ (e : TxId × Case). prepare (length c.views) e.0 e.1 (Some config)) (filter (λ e. has_part e.1 config.shard) c.cases) o s in
+    flat_map-StandsIn (λ (e : TxId × Case). prepare (length c.views) e.0 e.1 (Some config)) (filter (λ e. has_part e.1 config.shard) c.cases) o s in
     let among : StandsIn i.source c.cases = (filter-StandsIn (λ (e : TxId × Case). has_part e.1 config.shard) c.cases i.source i.among).0 in
     prepare_sends setup t i.source.0 i.source.1 (Some config) k (f i.source.0 i.source.1 among) (λ v e. (let same : config ≡ v = cc e in subst (λ x. IsStored t x) same stored)) o
     (subst (λ n. StandsIn o (prepare n i.source.0 i.source.1 (Some config))) l i.within)
@@ -123,6 +125,7 @@ decision_names t parts f = go (find (λ (p : Part). is_some (cause_of p.entry)) 
     at : (shard : ℕ) (cause : Option Cause) → ((x : Cause) → cause ≡ Some x → CauseNames t x) → DecisionNames t (decision_at shard cause)
     at shard None k = tt
     at shard (Some cause) k = k cause refl
+
     go : (p : Option Part) → find (λ (p : Part). is_some (cause_of p.entry)) parts ≡ p → DecisionNames t (decision_by p)
     go None e = tt
     go (Some p) e = at p.shard (cause_of p.entry) (λ cause q. entry_cause t p.entry cause (λ x r. f p x (find-StandsIn (λ (p : Part). is_some (cause_of p.entry)) parts p e).0 r) q)
@@ -140,6 +143,6 @@ unfolding tell_decision
 decision_told n t views txn case f =
     sends_both n t (flat_map (λ p. tell_members txn (commits (decision_of case.parts)) p.entry (view_of views p.shard)) case.parts) (to txn.home (OutcomeOf txn (decision_of case.parts)) ∷ [])
     (λ o s.
-      let i : IsPiece (λ (p : Part). tell_members txn (commits (decision_of case.parts)) p.entry (view_of views p.shard)) case.parts o = flat_map-StandsIn (λ (p : Part). tell_members txn (commits (decision_of case.parts)) p.entry (view_of views p.shard)) case.parts o s in
-      members_told n t txn (commits (decision_of case.parts)) i.source.entry (view_of views i.source.shard) (f.payload, f.begun) o i.within)
+    let i : IsPiece (λ (p : Part). tell_members txn (commits (decision_of case.parts)) p.entry (view_of views p.shard)) case.parts o = flat_map-StandsIn (λ (p : Part). tell_members txn (commits (decision_of case.parts)) p.entry (view_of views p.shard)) case.parts o s in
+    members_told n t txn (commits (decision_of case.parts)) i.source.entry (view_of views i.source.shard) (f.payload, f.begun) o i.within)
     (sends_one n t (to txn.home (OutcomeOf txn (decision_of case.parts))) (λ node i e. ((f.payload, f.begun), decision_names t case.parts (λ p x s q. (f.voted p x s q).vote))))
