@@ -191,6 +191,7 @@ transfer_start setup d = record {
   whole = λ from to c rows s. absurd s.sent;
   pieces = λ from to number pieces c rows s. absurd s.sent;
   kept = λ node g piece n e s. absurd (cc (e, (node-IsFresh setup d node n).gathering));
+  in_order = λ node g n e. absurd (cc (e, (node-IsFresh setup d node n).gathering));
   at_least = λ c name entries x i m r s. absurd (subst (λ xs. StandsIn x xs) (initial_is_none setup c entries i) s);
   at_most = λ c name x s m h. absurd (nothing_held setup d c.epoch name x h);
   led = λ c s r. has_initial setup d c s;

@@ -1,4 +1,6 @@
 //! What holds of every run of the protocol.
 #![tactic(auto)]
 
+pub mod invariant;
+pub mod limits;
 pub mod steps;

@@ -1,0 +1,44 @@
+-- Lemmas on lists whose elements are numbered in order.
+use Rattle.std.proofs.Common.{◌≡◌, ℕ, zero, suc, ◌+◌, ◌≤◌, List, [], ◌∷◌, map, inl, inr, sym, ◌∙◌, ap, arith}
+use Rattle.std.specs.List.{range_with_len}
+use Rattle.protocol.specs.Invariant.Time.{StandsIn}
+
+-- these many elements, numbered from that number on
+abbrev pub AreNumbered : {X : Type 0} → (X → ℕ) → List X → ℕ → ℕ → Type 0
+AreNumbered f xs from count = map f xs ≡ range_with_len from count
+
+-- the rest of them, after the first
+record IsSplit {X : Type 0} (f : X → ℕ) (x : X) (xs : List X) (from : ℕ) : Type 0 where
+  head : f x ≡ from
+  left : ℕ
+  tail : AreNumbered f xs (from + 1) left
+
+split : {X : Type 0} (f : X → ℕ) (x : X) (xs : List X) (from count : ℕ) → AreNumbered f (x ∷ xs) from count → IsSplit f x xs from
+split f x xs from zero h = absurd (cc h)
+split f x xs from (suc n) h = record { head = cc h; left = n; tail = cc h }
+
+-- no number is below the first
+pub numbered-above : {X : Type 0} (f : X → ℕ) (xs : List X) (from count : ℕ) (x : X) → AreNumbered f xs from count → StandsIn x xs → from ≤ f x
+numbered-above f [] from count x h s = absurd s
+numbered-above f (y ∷ ys) from count x h (inl e) =
+    let k : IsSplit f y ys from = split f y ys from count h in
+    let m : f x ≡ from = ap f e ∙ k.head in omega (arith, m)
+numbered-above f (y ∷ ys) from count x h (inr r) =
+    let k : IsSplit f y ys from = split f y ys from count h in
+    omega (arith, numbered-above f ys (from + 1) k.left x k.tail r)
+
+-- two of one number are one
+pub numbered-one : {X : Type 0} (f : X → ℕ) (xs : List X) (from count : ℕ) (a b : X) → AreNumbered f xs from count → StandsIn a xs → StandsIn b xs → f a ≡ f b → a ≡ b
+numbered-one f [] from count a b h p q e = absurd p
+numbered-one f (y ∷ ys) from count a b h (inl p) (inl q) e = p ∙ sym q
+numbered-one f (y ∷ ys) from count a b h (inl p) (inr q) e =
+    let k : IsSplit f y ys from = split f y ys from count h in
+    let m : f a ≡ from = ap f p ∙ k.head in
+    absurd (omega (arith, m, e, numbered-above f ys (from + 1) k.left b k.tail q))
+numbered-one f (y ∷ ys) from count a b h (inr p) (inl q) e =
+    let k : IsSplit f y ys from = split f y ys from count h in
+    let m : f b ≡ from = ap f q ∙ k.head in
+    absurd (omega (arith, m, e, numbered-above f ys (from + 1) k.left a k.tail p))
+numbered-one f (y ∷ ys) from count a b h (inr p) (inr q) e =
+    let k : IsSplit f y ys from = split f y ys from count h in
+    numbered-one f ys (from + 1) k.left a b k.tail p q e
