@@ -1,20 +1,19 @@
 -- Where the nodes, messages and notes of a world come from, after one event.
-use Rattle.std.proofs.Common.{◌≡◌, ℕ, ◌<◌, false, List, [], ◌∷◌, ◌++◌, map, length, Option, Some, ◌⊎◌, inl, inr, sym, ◌∙◌, ap, subst, refl, append-nil}
+use Rattle.std.proofs.Common.{◌≡◌, ℕ, List, [], ◌++◌, length, ◌⊎◌, inl, inr, sym, ◌∙◌, ap, subst, refl, append-nil}
 use Rattle.std.specs.List.{range_with_len}
 use Rattle.tcs_terms.specs.declared.inputs.Event.{Event}
-use Rattle.tcs_terms.specs.declared.inputs.Handled.{Handled}
 use Rattle.tcs_terms.specs.declared.inputs.Input.{Input}
 use Rattle.tcs_terms.specs.declared.inputs.Note.{Note}
 use Rattle.tcs_terms.specs.declared.messages.Message.{Message}
-use Rattle.tcs_terms.specs.declared.messages.Message.TheVariants.{ConfigChange, Stored, Refused, Cas}
+use Rattle.tcs_terms.specs.declared.messages.Message.TheVariants.{ConfigChange, Stored, Refused}
 use Rattle.tcs_terms.specs.declared.messages.Outgoing.{Outgoing}
 use Rattle.tcs_terms.specs.declared.messages.Why.{Why}
-use Rattle.tcs_terms.specs.Places.{Membership, is_among}
+use Rattle.tcs_terms.specs.Places.{Membership}
 use Rattle.tcs_laws.specs.Certification.{Tests}
 use Rattle.protocol.specs.Outcomes.{Out, to}
 use Rattle.protocol.specs.Records.{NodeRecord}
 use Rattle.protocol.specs.Service.{tell_nodes}
-use Rattle.protocol.specs.World.{World, Sent, Happening, happens_at, node_of}
+use Rattle.protocol.specs.World.{World, Sent, Happening, happens_at}
 use Rattle.protocol.specs.Invariant.Time.{StandsIn}
 use Rattle.protocol.proofs.Lists.{StandsIn-append}
 use Rattle.protocol_laws.specs.Change.{Comes, Serves, Change}

@@ -1,8 +1,7 @@
 -- What is so of transactions, entries and cases stays so.
-use Rattle.std.proofs.Common.{◌≡◌, ℕ, ◌<◌, ◌≤◌, Bool, List, [], ◌∷◌, ◌++◌, filter, length, Option, Some, None, is_some, ◌⊎◌, inl, inr, sym, ◌∙◌, ap, subst, refl, arith}
+use Rattle.std.proofs.Common.{◌≡◌, ℕ, ◌<◌, ◌≤◌, List, [], ◌∷◌, ◌++◌, filter, length, Option, Some, None, is_some, ◌⊎◌, inl, inr, sym, ◌∙◌, ap, subst, arith}
 use Rattle.tcs_terms.specs.declared.ids.TxId.{TxId}
 use Rattle.tcs_terms.specs.declared.inputs.Note.{Note}
-use Rattle.tcs_terms.specs.declared.logs.Row.{Row}
 use Rattle.tcs_terms.specs.declared.messages.Message.{Message}
 use Rattle.tcs_terms.specs.declared.messages.Message.TheVariants.{Prepare, PrepareAck, Accept, AcceptAck, DecisionFor, Probe, ProbeAck, NewConfig, NewState, ConfigChange, Last, At, Cas, Stored, OutcomeOf, Refused, StatePiece}
 use Rattle.tcs_terms.specs.declared.votes.Cause.{Cause}
@@ -13,11 +12,9 @@ use Rattle.tcs_terms.specs.declared.votes.Vote.{Vote}
 use Rattle.tcs_terms.specs.declared.votes.Vote.TheVariants as votes
 use Rattle.tcs_terms.specs.Payloads.{Accesses}
 use Rattle.tcs_terms.specs.Preparations.{Preparation}
-use Rattle.tcs_terms.specs.Shards.{restricted}
 use Rattle.protocol.specs.History.{begins_with, payload_in, first_some}
-use Rattle.protocol.specs.Records.{Part, Case, NodeRecord}
-use Rattle.protocol.specs.World.{World}
-use Rattle.protocol.specs.Invariant.Time.{Moment, worlds, StandsIn, IsNode, WasNoted}
+use Rattle.protocol.specs.Records.{Case}
+use Rattle.protocol.specs.Invariant.Time.{Moment, StandsIn, WasNoted}
 use Rattle.protocol.specs.Invariant.Transactions.{IsBegun, HasBegun, WasTaken, FoundNothingBy, IsPart, VoteNames, CauseNames, DecisionNames, EntryFits, PrepareFits, MessageFits, CaseFits}
 use Rattle.protocol_laws.specs.Turn.{Onward, GrewFrom}
 use Rattle.protocol_laws.proofs.TransactionsLists.{StandsIn-left}
@@ -44,10 +41,10 @@ is_begun-on t u txn payload g b = record {
   first = subst (λ h. payload_in h txn ≡ Some payload) (sym g.onward.history) (payload_in-more t.now.history g.onward.notes txn payload b.first);
   once = g.once txn payload b;
   given = λ node n e. (
-    let f : GrewFrom t node = g.onward.back node n in
-    let below : txn.seq < f.old.next = b.given f.old f.is (sym f.grows.name ∙ e) in
-    let rise : f.old.next ≤ node.next = f.grows.next in
-    omega (arith, below, rise));
+      let f : GrewFrom t node = g.onward.back node n in
+      let below : txn.seq < f.old.next = b.given f.old f.is (sym f.grows.name ∙ e) in
+      let rise : f.old.next ≤ node.next = f.grows.next in
+      omega (arith, below, rise));
 }
 
 pub has_begun-on : (t u : Moment) (txn : TxId) → Goes t u → HasBegun t txn → HasBegun u txn
@@ -55,11 +52,23 @@ has_begun-on t u txn g b = (b.0, is_begun-on t u txn b.0 g b.1)
 
 pub found_nothing-on : (t u : Moment) (txn : TxId) (shard : ℕ) → Onward t u → FoundNothingBy t txn shard → FoundNothingBy u txn shard
 found_nothing-on t u txn shard o f = record {
-  later = u.now ∷ f.later; after = f.after; before = f.before; earlier = f.earlier;
+  later = u.now ∷ f.later;
+  after = f.after;
+  before = f.before;
+  earlier = f.earlier;
   moments = ap (λ ws. u.now ∷ ws) (o.past ∙ f.moments);
-  node = f.node; there = f.there; of_shard = f.of_shard; leads = f.leads; nothing = f.nothing;
-  grown = f.grown; grown_there = f.grown_there; grown_name = f.grown_name;
-  entry = f.entry; appended = f.appended; of_txn = f.of_txn; empty = f.empty;
+  node = f.node;
+  there = f.there;
+  of_shard = f.of_shard;
+  leads = f.leads;
+  nothing = f.nothing;
+  grown = f.grown;
+  grown_there = f.grown_there;
+  grown_name = f.grown_name;
+  entry = f.entry;
+  appended = f.appended;
+  of_txn = f.of_txn;
+  empty = f.empty;
 }
 
 pub is_part-on : (t u : Moment) (n shard : ℕ) (txn : TxId) (whole : Accesses) (part : Option Accesses) → Onward t u → IsPart t n shard txn whole part → IsPart u n shard txn whole part

@@ -1,5 +1,5 @@
 -- What stands in lists that are joined, mapped, filtered, or kept by transaction.
-use Rattle.std.proofs.Common.{◌≡◌, ℕ, Bool, true, false, cond, List, [], ◌∷◌, ◌++◌, map, filter, flat_map, length, Option, Some, None, ◌&&◌, ◌==◌, ◌⊎◌, inl, inr, sym, ap, ap₂, subst, refl, eqb-true}
+use Rattle.std.proofs.Common.{◌≡◌, ℕ, zero, suc, Bool, true, false, cond, List, [], ◌∷◌, ◌++◌, map, filter, flat_map, take, drop, Some, ◌==◌, ◌⊎◌, inl, inr, sym, ap, ap₂, subst, refl, eqb-true}
 use Rattle.std.specs.Map.{lookup, set_value, remove_entry}
 use Rattle.tcs_terms.specs.declared.ids.TxId.{TxId}
 use Rattle.tcs_terms.specs.Logs.{same_txn}
@@ -62,14 +62,28 @@ flat_map-StandsIn {X = X} {Y = Y} f (x ∷ xs) y s = go (f x) refl s (flat_map-S
   where
     later : IsPiece f xs y → IsPiece f (x ∷ xs) y
     later i = record { source = i.source; among = inr i.among; within = i.within }
+
     here : (ys : List Y) → f x ≡ ys → StandsIn y ys → IsPiece f (x ∷ xs) y
     here ys e q = record { source = x; among = inl refl; within = rw e q }
+
     split : (ys zs : List Y) → StandsIn y (ys ++ zs) → StandsIn y ys ⊎ StandsIn y zs
     split [] zs q = inr q
     split (z ∷ ys) zs (inl q) = inl (inl q)
     split (z ∷ ys) zs (inr q) = elim (split ys zs q) [ inl r ↦ inl (inr r) | inr r ↦ inr r ]
+
     go : (ys : List Y) → f x ≡ ys → StandsIn y (ys ++ flat_map f xs) → (StandsIn y (flat_map f xs) → IsPiece f xs y) → IsPiece f (x ∷ xs) y
     go ys e q ih = elim (split ys (flat_map f xs) q) [ inl r ↦ here ys e r | inr r ↦ later (ih r) ]
+
+pub take-StandsIn : {X : Type 0} (k : ℕ) (xs : List X) (x : X) → StandsIn x (take k xs) → StandsIn x xs
+take-StandsIn zero xs x s = absurd s
+take-StandsIn (suc k) [] x s = absurd s
+take-StandsIn (suc k) (y ∷ ys) x (inl e) = inl e
+take-StandsIn (suc k) (y ∷ ys) x (inr s) = inr (take-StandsIn k ys x s)
+
+pub drop-StandsIn : {X : Type 0} (k : ℕ) (xs : List X) (x : X) → StandsIn x (drop k xs) → StandsIn x xs
+drop-StandsIn zero xs x s = s
+drop-StandsIn (suc k) [] x s = absurd s
+drop-StandsIn (suc k) (y ∷ ys) x s = inr (drop-StandsIn k ys x s)
 
 -- two transactions that pass as one are one
 pub same_txn-eq : (a b : TxId) → same_txn a b ≡ true → a ≡ b

@@ -1,37 +1,30 @@
 -- What a node notes when it acts, and that no transaction begins twice.
-use Rattle.std.proofs.Common.{◌≡◌, ℕ, ◌+◌, ◌<◌, ◌≤◌, Bool, true, false, cond, List, [], ◌∷◌, ◌++◌, filter, length, Option, Some, None, is_some, ◌⊎◌, inl, inr, sym, ◌∙◌, ap, subst, refl, arith, append-nil}
+use Rattle.std.proofs.Common.{◌≡◌, ℕ, ◌+◌, ◌<◌, ◌≤◌, Bool, true, false, cond, List, [], ◌∷◌, ◌++◌, filter, length, Some, None, is_some, ◌⊎◌, inl, inr, sym, ◌∙◌, ap, refl, arith}
 use Rattle.tcs_terms.specs.declared.ids.TxId.{TxId}
 use Rattle.tcs_terms.specs.declared.inputs.Event.{Event}
 use Rattle.tcs_terms.specs.declared.inputs.Input.{Input}
 use Rattle.tcs_terms.specs.declared.inputs.Note.{Note}
 use Rattle.tcs_terms.specs.declared.inputs.Note.TheVariants as notes
-use Rattle.tcs_terms.specs.declared.messages.Message.{Message}
 use Rattle.tcs_terms.specs.declared.messages.Outgoing.{Outgoing}
 use Rattle.tcs_terms.specs.Logs.{same_txn}
 use Rattle.tcs_terms.specs.Payloads.{Accesses}
-use Rattle.tcs_terms.specs.Places.{Membership}
 use Rattle.tcs_terms.specs.Setups.{Deployment}
 use Rattle.tcs_laws.specs.Certification.{Tests}
 use Rattle.protocol.specs.ClientRules.{next_txn}
 use Rattle.protocol.specs.History.{begins_with}
 use Rattle.protocol.specs.Outcomes.{Out}
 use Rattle.protocol.specs.Records.{Case, Coordinator, NodeRecord}
-use Rattle.protocol.specs.World.{World, Happening}
+use Rattle.protocol.specs.World.{Happening}
 use Rattle.protocol.specs.Invariant.Time.{Moment, goes_to, StandsIn, IsNode, WasNoted}
 use Rattle.protocol.specs.Invariant.Transactions.{IsBegun}
-use Rattle.protocol.proofs.Lists.{StandsIn-append}
-use Rattle.protocol_laws.specs.Change.{Serves, Change}
-use Rattle.protocol_laws.specs.Change.Serves.{HoldsBack, Tells, Stores}
-use Rattle.protocol_laws.specs.Change.Change.{Passes, Stops, Acts, AtService}
 use Rattle.protocol_laws.specs.Effect.{Effect, GoesOn}
 use Rattle.protocol_laws.specs.Effect.GoesOn.{Waiting, Decides}
-use Rattle.protocol_laws.specs.Effect.Effect.{Rests, Certifies, TakesOver, Nudges, Moves, Lowers, Reads, Asks, AnswersAgain, Appends, Votes, Acknowledges, Changes, Learns, Keeps, Accepts, Marks, Promises, Chooses, FindsLow, Leads, Follows, Gathers, FollowsPieces}
+use Rattle.protocol_laws.specs.Effect.Effect.{Rests, Certifies, TakesOver, Reads, Votes, Acknowledges}
 use Rattle.protocol_laws.specs.Turn.{Turn, GrewFrom}
 use Rattle.protocol_laws.proofs.OnwardOf.{onward_of}
 use Rattle.protocol_laws.proofs.TransactionsLists.{same_txn-eq}
 use Rattle.protocol_laws.proofs.TransactionsLast.{Goes}
-use Rattle.protocol_laws.proofs.TransactionsCame.{Acted, NodeCame, HistoryCame, NoteCame, node_came, history_came, note_came, acted_back}
-use Rattle.protocol_laws.proofs.TransactionsCame.NodeCame.{WasThere, HasActed}
+use Rattle.protocol_laws.proofs.TransactionsCame.{Acted, HistoryCame, NoteCame, history_came, note_came, acted_back}
 use Rattle.protocol_laws.proofs.TransactionsCame.HistoryCame.{NothingNoted, NodeNotes}
 use Rattle.protocol_laws.proofs.TransactionsCame.NoteCame.{WasNotedBefore, NodeNoted}
 
@@ -112,6 +105,7 @@ numbers_kept tests setup t event h turn txn payload node noted n e = go (note_ca
   where
     grown : GrewFrom t node
     grown = (onward_of tests setup t event h turn).back node n
+
     go : NoteCame tests setup.version t.now event h (notes.Begin txn payload) → txn.seq < node.next
     go (WasNotedBefore s) =
         let below : txn.seq < grown.old.next = turn.before.transactions.numbers txn payload grown.old s grown.is (sym grown.grows.name ∙ e) in

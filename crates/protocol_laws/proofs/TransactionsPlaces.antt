@@ -1,13 +1,13 @@
 -- Where nodes and configurations are: members are nodes of their shard, and a shard's epoch has one configuration.
-use Rattle.std.proofs.Common.{◌≡◌, ℕ, zero, suc, ◌+◌, ◌-◌, ◌≤◌, Bool, true, List, [], ◌∷◌, ◌++◌, map, filter, length, Option, Some, None, ◌&&◌, ◌==◌, ◌⊎◌, inl, inr, sym, ◌∙◌, ap, subst, refl, arith, slice_index, eqb-true, eq-eqb}
-use Rattle.std.specs.List.{range_with_len, list_all}
+use Rattle.std.proofs.Common.{◌≡◌, ℕ, zero, suc, ◌+◌, ◌-◌, ◌≤◌, true, List, [], ◌∷◌, ◌++◌, map, filter, length, Some, ◌==◌, inl, inr, sym, ◌∙◌, ap, subst, refl, arith, slice_index, eqb-true, eq-eqb}
+use Rattle.std.specs.List.{range_with_len}
 use Rattle.std.proofs.lemmas.List.FromFn.{length-range_with_len}
-use Rattle.tcs_terms.specs.Places.{Membership, is_among}
+use Rattle.tcs_terms.specs.Places.{Membership}
 use Rattle.tcs_terms.specs.Setups.{Deployment, is_node_of, has_node}
 use Rattle.protocol.specs.Records.{NodeRecord}
 use Rattle.protocol.specs.Service.{last_epoch}
 use Rattle.protocol.specs.Views.{view_of}
-use Rattle.protocol.specs.Invariant.Configurations.{ConfigurationsHold, configs_of, role_configs, probed_configs, gathered_configs, HasMembers}
+use Rattle.protocol.specs.Invariant.Configurations.{ConfigurationsHold, role_configs, probed_configs, gathered_configs, HasMembers}
 use Rattle.protocol.specs.Invariant.Time.{Moment, StandsIn, IsNode, IsStored}
 use Rattle.protocol.proofs.FirstRoles.{and-right}
 use Rattle.protocol.proofs.Lists.{find-StandsIn, all-StandsIn, among-StandsIn}
