@@ -8,3 +8,4 @@ pub mod Lasting
 pub mod TransferEvents
 pub mod TransferConfigs
 pub mod TransferPieces
+pub mod TransferGathering
