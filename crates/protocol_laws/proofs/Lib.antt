@@ -9,3 +9,4 @@ pub mod TransferEvents
 pub mod TransferConfigs
 pub mod TransferPieces
 pub mod TransferGathering
+pub mod TransferEnters
