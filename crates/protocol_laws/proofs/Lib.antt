@@ -10,3 +10,4 @@ pub mod TransferConfigs
 pub mod TransferPieces
 pub mod TransferGathering
 pub mod TransferEnters
+pub mod TransferReached

@@ -106,6 +106,7 @@ pub record Following (t u : Moment) (c : Membership) (new : NodeRecord) : Type 0
   pub node : NodeRecord
   pub is : IsNode t node
   pub named : node.name ≡ new.name
+  pub shard : c.shard ≡ new.shard
   pub may : MayFollow node c
   pub stored : IsStored t c
   pub role : new.role ≡ Follower c
@@ -167,6 +168,7 @@ following_of tests setup t event h turn a b =
       node = a.node;
       is = a.is;
       named = sym (effect_name tests setup.version a.node a.input a.out a.effect);
+      shard = b.may.shard ∙ sym (effect_shard tests setup.version a.node a.input a.out a.effect);
       may = b.may;
       stored = f.0;
       role = ap (λ (n : NodeRecord). n.role) b.is;
