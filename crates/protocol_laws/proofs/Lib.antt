@@ -11,3 +11,4 @@ pub mod TransferPieces
 pub mod TransferGathering
 pub mod TransferEnters
 pub mod TransferReached
+pub mod TransferInitial
