@@ -12,3 +12,4 @@ pub mod TransferGathering
 pub mod TransferEnters
 pub mod TransferReached
 pub mod TransferInitial
+pub mod TransferHeld

@@ -77,7 +77,7 @@ pub record Enters (t u : Moment) (c : Membership) (name : ℕ) : Type 0 where
   pub how : LeadsAs t u c new ⊎ Following t u c new
 
 -- the configuration that a member of a configuration enters at its epoch is that one
-enters_it : (setup : Deployment) (t u : Moment) → Onward t u → ConfigurationsHold setup u → (c : Membership) (new : NodeRecord) → IsStored u c → IsNode u new → StandsIn new.name c.members → new.state ≡ c.epoch → EntersAs t u new → LeadsAs t u c new ⊎ Following t u c new
+pub enters_it : (setup : Deployment) (t u : Moment) → Onward t u → ConfigurationsHold setup u → (c : Membership) (new : NodeRecord) → IsStored u c → IsNode u new → StandsIn new.name c.members → new.state ≡ c.epoch → EntersAs t u new → LeadsAs t u c new ⊎ Following t u c new
 enters_it setup t u onward cu c new s n m e f = go f.how
   where
     shard : new.shard ≡ c.shard
