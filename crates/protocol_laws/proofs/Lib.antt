@@ -13,3 +13,4 @@ pub mod TransferEnters
 pub mod TransferReached
 pub mod TransferInitial
 pub mod TransferHeld
+pub mod TransferHandedOn
