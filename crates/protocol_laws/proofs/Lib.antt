@@ -14,3 +14,4 @@ pub mod TransferReached
 pub mod TransferInitial
 pub mod TransferHeld
 pub mod TransferHandedOn
+pub mod TransferSends
