@@ -15,3 +15,4 @@ pub mod TransferInitial
 pub mod TransferHeld
 pub mod TransferHandedOn
 pub mod TransferSends
+pub mod TransferSending
