@@ -16,3 +16,4 @@ pub mod TransferHeld
 pub mod TransferHandedOn
 pub mod TransferSends
 pub mod TransferSending
+pub mod TransferSent

@@ -129,7 +129,7 @@ fenced_below node role epoch is e f p one = go (subst (λ r. FitsRole node r) e 
     go (inl l) = omega (arith, l, p)
     go (inr z) = absurd (omega (arith, z.1, p, one))
 
-leading_of : (tests : Tests) (setup : Deployment) (t : Moment) (event : Event) (h : Happening) → Turn tests setup t event h → (a : Acting tests setup t event h) (b : BecomesLeader a.node a.input a.out.kept) → LeadsAs t (goes_to t h.after) b.config a.out.kept
+pub leading_of : (tests : Tests) (setup : Deployment) (t : Moment) (event : Event) (h : Happening) → Turn tests setup t event h → (a : Acting tests setup t event h) (b : BecomesLeader a.node a.input a.out.kept) → LeadsAs t (goes_to t h.after) b.config a.out.kept
 leading_of tests setup t event h turn a b =
     let told : WasSent t b.from a.node.name (NewConfig b.config) = delivered setup t a.node.name event b.from (NewConfig b.config) turn.fits (subst (λ (i : Input). Comes t.now a.node.name event i) b.delivers a.comes) in
     let stored : IsStored t b.config = turn.before.configurations.in_messages b.from a.node.name (NewConfig b.config) b.config told refl in

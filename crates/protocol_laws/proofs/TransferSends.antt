@@ -64,7 +64,7 @@ one-says o h p (inr s) = absurd s
 pub append-says : (xs ys : List Outgoing) → SayNothing xs → SayNothing ys → SayNothing (xs ++ ys)
 append-says xs ys p q o s = elim (StandsIn-append xs ys o s) [ inl a ↦ p o a | inr b ↦ q o b ]
 
-map-says : {A : Type 0} (f : A → Outgoing) (xs : List A) → ((a : A) → SaysNothing (f a).message) → SayNothing (map f xs)
+pub map-says : {A : Type 0} (f : A → Outgoing) (xs : List A) → ((a : A) → SaysNothing (f a).message) → SayNothing (map f xs)
 map-says f [] h o s = absurd s
 map-says f (x ∷ xs) h o (inl e) = subst (λ (q : Outgoing). SaysNothing q.message) (sym e) (h x)
 map-says f (x ∷ xs) h o (inr s) = map-says f xs h o s
