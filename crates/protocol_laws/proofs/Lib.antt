@@ -17,3 +17,4 @@ pub mod TransferHandedOn
 pub mod TransferSends
 pub mod TransferSending
 pub mod TransferSent
+pub mod TransferKept
