@@ -113,15 +113,14 @@ module _ (tests : Tests) (setup : Deployment) (t : Moment) (event : Event) (h : 
             initial = i;
             held = turn.before.transfer.at_least c c.leader (entries_of e.new.rows) x f.initial (leads_member setup t turn.before.configurations c f.stored) (turn.before.transfer.leader_reached c i) k;
           })
-      by : Held t c.epoch name x ⊎ Gains t u c name x → Listed u c x
+      by : Held t c.epoch name x ⊎ Gains tests t u c name x → Listed u c x
       by (inl k) =
           let r : Reached t c.epoch name = record { node = k.node; was = k.was; some = k.some } in
           listed-on t u c x onward (turn.before.transfer.at_most c name x (stored_then tests setup t event h turn cu onward c name s m r) m k)
       by (inr (EntersWith e k)) = entered e k e.how
-      by (inr (AppendsIt stored r leads)) = record {
-        initial = has_initial-on t u c onward (turn.before.transfer.led c stored (subst (λ n. Reached t c.epoch n) (sym leads) r));
-        held = subst (λ n. Held u c.epoch n x) (sym leads) held;
-      }
+      by (inr (AppendsIt a leads)) =
+          let r : Reached t c.epoch c.leader = record { node = a.node; was = is_in-now t c.epoch c.leader a.node a.is (sym a.leader) (sym a.of.epoch); some = a.some } in
+          record { initial = has_initial-on t u c onward (turn.before.transfer.led c a.stored r); held = subst (λ n. Held u c.epoch n x) (sym leads) held }
       by (inr (AcceptsIt l)) = listed-on t u c x onward l
 
 pub transfer_kept : (tests : Tests) (setup : Deployment) (t : Moment) (event : Event) (h : Happening) → Turn tests setup t event h
