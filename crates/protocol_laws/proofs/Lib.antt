@@ -7,6 +7,7 @@ pub mod After
 pub mod Lasting
 pub mod TransferEvents
 pub mod TransferConfigs
+pub mod TransferAscending
 pub mod TransferPieces
 pub mod TransferGathering
 pub mod TransferEnters
@@ -18,3 +19,4 @@ pub mod TransferSends
 pub mod TransferSending
 pub mod TransferSent
 pub mod TransferKept
+pub mod EntriesRows
