@@ -20,3 +20,4 @@ pub mod TransferSending
 pub mod TransferSent
 pub mod TransferKept
 pub mod EntriesRows
+pub mod EntriesListed

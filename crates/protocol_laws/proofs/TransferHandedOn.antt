@@ -60,7 +60,7 @@ handed_by_skipped setup t ct earlier entries s k =
 module _ (tests : Tests) (setup : Deployment) (t : Moment) (event : Event) (h : Happening) (turn : Turn tests setup t event h) (cu : ConfigurationsHold setup (goes_to t h.after)) (onward : Onward t (goes_to t h.after)) (c : Membership) (l : Leading t (goes_to t h.after) c) where
 
   -- the leader answered with its state epoch
-  leader_state : (k : IsChosen t c) → l.node.state ≡ k.state
+  pub leader_state : (k : IsChosen t c) → l.node.state ≡ k.state
   leader_state k =
       let a : AnswerHolds t c.leader c.epoch k.state = turn.before.answers.each c.leader k.to c.epoch k.state k.answered in
       let same : a.node ≡ l.node = one_node setup t a.node l.node turn.before.configurations a.is l.is (a.named ∙ l.leader) in
