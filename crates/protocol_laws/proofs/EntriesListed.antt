@@ -93,10 +93,10 @@ module _ (tests : Tests) (setup : Deployment) (t : Moment) (event : Event) (h : 
       by (inr (AcceptsIt k)) = inl k
 
   -- the leader of a list that grows is in its epoch
-  pub leading_now : (c : Membership) → Leading t u c → LeaderNow u c
+  abbrev pub leading_now : (c : Membership) → Leading t u c → LeaderNow u c
   leading_now c l = record { node = record l.node { role = Leader c; state = c.epoch }; is = l.there; named = sym l.leader; state = refl }
 
-  pub appending_now : (c : Membership) (x : Preparation) → Appending tests t u c x → LeaderNow u c
+  abbrev pub appending_now : (c : Membership) (x : Preparation) → Appending tests t u c x → LeaderNow u c
   appending_now c x a = record { node = record a.node { rows = a.node.rows ++ undecided x ∷ [] }; is = a.there; named = sym a.leader; state = sym a.of.epoch }
 
   -- what holds of two entries in the rows of one log, and of two that were listed before, holds of two that are listed

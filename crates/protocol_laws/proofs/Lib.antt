@@ -21,3 +21,4 @@ pub mod TransferSent
 pub mod TransferKept
 pub mod EntriesRows
 pub mod EntriesListed
+pub mod EntriesAppended

@@ -52,7 +52,7 @@ filtered-entries p rows x s =
     subst (λ y. StandsIn y (entries_of rows)) (sym m.is) (StandsIn-map (λ (r : Row). r.entry) rows m.from (filter-StandsIn p rows m.from m.there).0)
 
 -- the entries of rows joined
-joined-entries : (xs ys : List Row) (x : Preparation) → StandsIn x (entries_of (xs ++ ys)) → StandsIn x (entries_of xs) ⊎ StandsIn x (entries_of ys)
+pub joined-entries : (xs ys : List Row) (x : Preparation) → StandsIn x (entries_of (xs ++ ys)) → StandsIn x (entries_of xs) ⊎ StandsIn x (entries_of ys)
 joined-entries [] ys x s = inr s
 joined-entries (r ∷ rs) ys x (inl e) = inl (inl e)
 joined-entries (r ∷ rs) ys x (inr s) = elim (joined-entries rs ys x s) [ inl k ↦ inl (inr k) | inr k ↦ inr k ]
