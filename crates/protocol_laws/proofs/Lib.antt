@@ -22,3 +22,4 @@ pub mod TransferKept
 pub mod EntriesRows
 pub mod EntriesListed
 pub mod EntriesAppended
+pub mod EntriesAnswered

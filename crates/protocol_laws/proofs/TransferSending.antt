@@ -21,7 +21,7 @@ use Rattle.protocol.specs.Outcomes.{Out, to}
 use Rattle.protocol.specs.Pieces.{piece_count, piece_of}
 use Rattle.protocol.specs.Probing.{ask_stage, proposed}
 use Rattle.protocol.specs.Records.{Part, Case, NodeRecord}
-use Rattle.protocol.specs.ShardRules.{is_leader, state_to}
+use Rattle.protocol.specs.ShardRules.{is_leader, is_following, state_to}
 use Rattle.protocol.specs.Views.{view_of, followers}
 use Rattle.protocol.proofs.Lists.{StandsIn-append, find-StandsIn}
 use Rattle.protocol_laws.specs.Effect.{Effect, OpenPart}
@@ -55,7 +55,7 @@ pub data Sending (node : NodeRecord) (input : Input) (new : NodeRecord) (dest : 
   AsksVoted : (view : Membership) (entry : Preparation) → StandsIn dest (followers view) → VotesNow node input view entry → Sending node input new dest (Accept view.epoch entry)
   AsksAgain : (txn : TxId) (case : Case) (part : Part) (view : Membership) (entry : Preparation) → StandsIn (txn, case) node.coordinator.cases → StandsIn part case.parts → part.entry ≡ Some entry → view_of node.coordinator.views part.shard ≡ Some view → StandsIn dest (followers view)
       → Sending node input new dest (Accept view.epoch entry)
-  Holds : (slot : ℕ) (txn : TxId) → new.state ≡ node.state → HasEntry new.rows slot txn → Sending node input new dest (AcceptAck node.shard node.state slot txn)
+  Holds : (slot : ℕ) (txn : TxId) → is_following node.role ≡ true → new.state ≡ node.state → HasEntry new.rows slot txn → Sending node input new dest (AcceptAck node.shard node.state slot txn)
   SendsWhole : (b : BecomesLeader node input new) → Sending node input new dest (NewState b.config node.rows)
   SendsPiece : (b : BecomesLeader node input new) (number : ℕ) → 1 ≤ number → number ≤ piece_count node.rows → Sending node input new dest (StatePiece b.config number (piece_count node.rows) (piece_of node.rows number))
 
@@ -145,7 +145,7 @@ sending_by tests version node input out (Learns from config coordinator sent sta
 sending_by tests version node input out (Keeps from txn decision home seq) dest m s = absurd s
 sending_by tests version node input out (Accepts from epoch entry follows at taken) dest m s =
     subst (λ (k : Message). Sending node (Deliver from (Accept epoch entry)) (record node { rows = accepted node.rows entry }) dest k) (ap (λ n. AcceptAck node.shard n entry.slot entry.txn) at ∙ only dest m _ s)
-    (Holds entry.slot entry.txn refl (accepted-has node.rows entry))
+    (Holds entry.slot entry.txn follows refl (accepted-has node.rows entry))
 sending_by tests version node input out (Marks from epoch slot txn commit l has) dest m s = absurd s
 sending_by tests version node input out (Promises from epoch l) dest m s = one node _ _ dest m from (ProbeAck epoch node.state) tt s
 sending_by tests version node input out (Chooses from state shard want epoch probed low e a l) dest m s = one node _ _ dest m 0 (Cas (proposed node.name shard epoch want from)) tt s
