@@ -60,6 +60,7 @@ pub mod ChoiceStage
 pub mod ChoiceKept
 pub mod TransferEvents
 pub mod TransferConfigs
+pub mod TransferAscending
 pub mod TransferPieces
 pub mod TransactionsLists
 pub mod TransactionsLast
@@ -92,3 +93,17 @@ pub mod OrderOf
 pub mod KeepsTime
 pub mod HistoryAt
 pub mod HistoryLaws
+pub mod TransferGathering
+pub mod TransferEnters
+pub mod TransferReached
+pub mod TransferInitial
+pub mod TransferHeld
+pub mod TransferHandedOn
+pub mod TransferSends
+pub mod TransferSending
+pub mod TransferSent
+pub mod TransferKept
+pub mod EntriesRows
+pub mod EntriesListed
+pub mod EntriesAppended
+pub mod EntriesAnswered

@@ -16,6 +16,7 @@ use Rattle.protocol.specs.Records.{Piece}
 use Rattle.protocol.specs.Views.{same_config}
 use Rattle.protocol.specs.Invariant.Time.{StandsIn}
 use Rattle.protocol.proofs.Lists.{StandsIn-append}
+use Rattle.protocol_laws.proofs.TransferAscending.{tail-ascends, tail-above}
 use Rattle.protocol_laws.proofs.Standing.{filter-StandsIn}
 
 abbrev numbers : List Piece → List ℕ
@@ -29,19 +30,6 @@ head_below p (q ∷ qs) bound up below =
     let k : q.number + length qs < bound = head_below q qs bound (right_of (nat_lt p.number q.number) (ascends (numbers (q ∷ qs))) up) (λ r s. below r (inr s)) in
     omega (arith, first, k)
 
-tail_up : (p : Piece) (ps : List Piece) → ascends (numbers (p ∷ ps)) ≡ true → ascends (numbers ps) ≡ true
-tail_up p [] up = refl
-tail_up p (q ∷ qs) up = right_of (nat_lt p.number q.number) (ascends (numbers (q ∷ qs))) up
-
-tail_above : (p : Piece) (ps : List Piece) (q : Piece) → ascends (numbers (p ∷ ps)) ≡ true → StandsIn q ps → p.number < q.number
-tail_above p [] q up s = absurd s
-tail_above p (r ∷ rs) q up (inl e) =
-    let k : p.number < r.number = ltb-true p.number r.number (left_of (nat_lt p.number r.number) (ascends (numbers (r ∷ rs))) up) in
-    let m : q.number ≡ r.number = ap (λ (x : Piece). x.number) e in omega (arith, k, m)
-tail_above p (r ∷ rs) q up (inr s) =
-    let k : p.number < r.number = ltb-true p.number r.number (left_of (nat_lt p.number r.number) (ascends (numbers (r ∷ rs))) up) in
-    let m : r.number < q.number = tail_above r rs q (right_of (nat_lt p.number r.number) (ascends (numbers (r ∷ rs))) up) s in omega (arith, k, m)
-
 times : (a b : ℕ) → a * (b + 1) ≡ a * b + a
 times a b = omega arith
 
@@ -54,8 +42,8 @@ joined size all (p ∷ ps) from one up each =
     let most : p.number + length ps < from + length (p ∷ ps) = head_below p ps (from + length (p ∷ ps)) up (λ q s. (each q s).1) in
     let least : from ≤ p.number = mine.0 in
     let is : p.number ≡ from = omega (arith, most, least) in
-    let rest : rows_of ps ≡ take (size * length ps) (drop (size * (from + 1 - 1)) all) = joined size all ps (from + 1) (omega arith) (tail_up p ps up)
-          (λ q s. let h = each q (inr s) in let a : p.number < q.number = tail_above p ps q up s in (omega (arith, a, is), omega (arith, h.1), h.2)) in
+    let rest : rows_of ps ≡ take (size * length ps) (drop (size * (from + 1 - 1)) all) = joined size all ps (from + 1) (omega arith) (tail-ascends (λ (p : Piece). p.number) p ps up)
+          (λ q s. let h = each q (inr s) in let a : p.number < q.number = tail-above (λ (p : Piece). p.number) p ps q up s in (omega (arith, a, is), omega (arith, h.1), h.2)) in
     let there : drop (size * (from + 1 - 1)) all ≡ drop size (drop (size * (from - 1)) all)
         = ap (λ k. drop k all) (let e : from + 1 - 1 ≡ from - 1 + 1 = omega (arith, one) in ap (λ k. size * k) e ∙ times size (from - 1)) ∙ sym (drop-drop size (size * (from - 1)) all) in
     let head : p.rows ≡ take size (drop (size * (from - 1)) all) = mine.2 ∙ ap (λ n. take size (drop (size * (n - 1)) all)) is in
