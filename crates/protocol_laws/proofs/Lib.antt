@@ -34,3 +34,12 @@ pub mod TransactionsNotes
 pub mod Kept
 pub mod RunInduction
 pub mod LimitedRuns
+pub mod WithPast
+pub mod OrderOf
+pub mod BegunFirst
+pub mod AgreesOf
+pub mod KeepsTime
+pub mod NamesOnce
+pub mod PayloadReads
+pub mod LegalOrder
+pub mod CopyAfter
