@@ -39,7 +39,7 @@ has_begun-kept xs ys txn h = ap is_some (payload_in-append xs ys txn) ∙ go (pa
     go (Some p) k = refl
 
 -- a transaction that is decided in a front of the history has begun there
-decided-begun : (h before : List Note) (more : List Note) (txn : TxId) → BegunFirst h → h ≡ before ++ more → StandsIn (Decide txn Commit) before → has_begun before txn ≡ true
+pub decided-begun : (h before : List Note) (more : List Note) (txn : TxId) → BegunFirst h → h ≡ before ++ more → StandsIn (Decide txn Commit) before → has_begun before txn ≡ true
 decided-begun h before more txn b e s =
     let at : IsSplitAt before (Decide txn Commit) = split-at before (Decide txn Commit) s in
     let begun : has_begun at.before txn ≡ true = b.each at.before txn Commit (at.after ++ more) (e ∙ ap (λ ns. ns ++ more) at.is ∙ append_assoc at.before (Decide txn Commit ∷ at.after) more) in

@@ -43,3 +43,7 @@ pub mod NamesOnce
 pub mod PayloadReads
 pub mod LegalOrder
 pub mod CopyAfter
+pub mod OrderGrows
+pub mod PayloadsKept
+pub mod HistoryKept
+pub mod BeforeBegin

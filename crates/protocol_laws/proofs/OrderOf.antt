@@ -13,7 +13,7 @@ use Rattle.protocol_laws.proofs.Standing.{filter-StandsIn, StandsIn-filter}
 use Rattle.protocol_laws.proofs.TransactionsLists.{same_txn-eq}
 
 -- a note that commits is a decision
-commit_in-is : (n : Note) (txn : TxId) → commit_in n ≡ Some txn → Decide txn Commit ≡ n
+pub commit_in-is : (n : Note) (txn : TxId) → commit_in n ≡ Some txn → Decide txn Commit ≡ n
 commit_in-is (Begin other payload) txn h = absurd (cc h)
 commit_in-is (Take other) txn h = absurd (cc h)
 commit_in-is (ReadValue name version value) txn h = absurd (cc h)
@@ -61,7 +61,7 @@ any-StandsIn txn (t ∷ ts) h = go (same_txn txn t) refl h (any-StandsIn txn ts)
     go true e k ih = inl (same_txn-eq txn t e)
     go false e k ih = inr (ih k)
 
-filter_map-append : {X Y : Type 0} (f : X → Option Y) (xs ys : List X) → filter_map f (xs ++ ys) ≡ filter_map f xs ++ filter_map f ys
+pub filter_map-append : {X Y : Type 0} (f : X → Option Y) (xs ys : List X) → filter_map f (xs ++ ys) ≡ filter_map f xs ++ filter_map f ys
 filter_map-append f [] ys = refl
 filter_map-append f (x ∷ xs) ys = ap (λ zs. cons_option (f x) zs) (filter_map-append f xs ys) ∙ joined (f x) (filter_map f xs) (filter_map f ys)
   where
@@ -69,7 +69,7 @@ filter_map-append f (x ∷ xs) ys = ap (λ zs. cons_option (f x) zs) (filter_map
     joined None front back = refl
     joined (Some z) front back = refl
 
-filter-append : {X : Type 0} (p : X → Bool) (xs ys : List X) → filter p (xs ++ ys) ≡ filter p xs ++ filter p ys
+pub filter-append : {X : Type 0} (p : X → Bool) (xs ys : List X) → filter p (xs ++ ys) ≡ filter p xs ++ filter p ys
 filter-append p [] ys = refl
 filter-append {X = X} p (x ∷ xs) ys = go (p x) (filter-append p xs ys)
   where
