@@ -1,6 +1,7 @@
 -- What was committed before a transaction began stands before it in the order.
-use Rattle.std.proofs.Common.{◌≡◌, ℕ, suc, zero, ◌+◌, ◌≤◌, Bool, true, false, not, cond, List, [], ◌∷◌, ◌++◌, ◌||◌, filter, take, drop, Option, Some, None, is_some, ◌⊎◌, inl, inr, sym, ◌∙◌, ap, subst, refl}
-use Rattle.std.specs.List.{take_while, prefix_len}
+use Rattle.std.proofs.Common.{◌≡◌, ℕ, suc, zero, ◌+◌, ◌≤◌, Bool, true, false, not, cond, List, [], ◌∷◌, ◌++◌, ◌||◌, filter, take, drop, Option, Some, None, is_some, ◌⊎◌, inl, inr, sym, ◌∙◌, ap, subst, refl, arith}
+use Rattle.std.proofs.lemmas.List.{take-append-drop}
+use Rattle.std.specs.List.{prefix_len}
 use Rattle.tcs_terms.specs.declared.ids.TxId.{TxId}
 use Rattle.tcs_terms.specs.declared.inputs.Note.{Note}
 use Rattle.tcs_terms.specs.declared.inputs.Note.TheVariants.{Decide}
@@ -36,7 +37,7 @@ noted-order h txn s = first_of_each-there _ txn (noted-committed h txn s)
 pub before_begin-front : (h : List Note) (txn : TxId) → IsFront (before_begin h txn) h
 before_begin-front h txn =
     let n : ℕ = prefix_len (λ m. not (is_some (begins_with txn m))) h in
-    record { rest = drop n h; is = sym (take-drop-append n h) }
+    record { rest = drop n h; is = sym (take-append-drop n h) }
 
 -- it has not begun before
 pub before_begin-none : (h : List Note) (txn : TxId) → has_begun (before_begin h txn) txn ≡ false
@@ -47,7 +48,11 @@ before_begin-none (n ∷ ns) txn = go (begins_with txn n) refl (before_begin-non
     k = prefix_len (λ m. not (is_some (begins_with txn m))) ns
 
     go : (o : Option Accesses) → begins_with txn n ≡ o → has_begun (take k ns) txn ≡ false → has_begun (take (cond (not (is_some (begins_with txn n))) (1 + k) 0) (n ∷ ns)) txn ≡ false
-    go None e ih = ap (λ x. has_begun (take (cond (not (is_some x)) (1 + k) 0) (n ∷ ns)) txn) e ∙ ap (λ x. is_some (first_some x (payload_in (take k ns) txn))) e ∙ ih
+    go None e ih =
+        let more : 1 + k ≡ suc k = omega arith in
+        ap (λ x. has_begun (take (cond (not (is_some x)) (1 + k) 0) (n ∷ ns)) txn) e
+        ∙ ap (λ m. has_begun (take m (n ∷ ns)) txn) more
+        ∙ ap (λ x. is_some (first_some x (payload_in (take k ns) txn))) e ∙ ih
     go (Some p) e ih = ap (λ x. has_begun (take (cond (not (is_some x)) (1 + k) 0) (n ∷ ns)) txn) e
 
 -- what was committed before a transaction began stands before it in the order

@@ -20,12 +20,12 @@ use Rattle.protocol_laws.proofs.OrderOf.{order-noted, order-front, any-StandsIn}
 use Rattle.protocol_laws.proofs.WithPast.{all-of, with_past-all, stands_before-joined}
 
 -- a place of an element in a list
-record IsSplitAt {X : Type 0} (xs : List X) (x : X) : Type 0 where
-  before : List X
-  after : List X
-  is : xs ≡ before ++ (x ∷ after)
+pub record IsSplitAt {X : Type 0} (xs : List X) (x : X) : Type 0 where
+  pub before : List X
+  pub after : List X
+  pub is : xs ≡ before ++ (x ∷ after)
 
-split-at : {X : Type 0} (xs : List X) (x : X) → StandsIn x xs → IsSplitAt xs x
+pub split-at : {X : Type 0} (xs : List X) (x : X) → StandsIn x xs → IsSplitAt xs x
 split-at [] x s = absurd s
 split-at (y ∷ ys) x (inl e) = record { before = []; after = ys; is = ap (λ z. z ∷ ys) (sym e) }
 split-at (y ∷ ys) x (inr s) = let r : IsSplitAt ys x = split-at ys x s in record { before = y ∷ r.before; after = r.after; is = ap (λ zs. y ∷ zs) r.is }

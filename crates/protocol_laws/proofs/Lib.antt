@@ -44,6 +44,7 @@ pub mod PayloadReads
 pub mod LegalOrder
 pub mod CopyAfter
 pub mod OrderGrows
-pub mod PayloadsKept
-pub mod HistoryKept
 pub mod BeforeBegin
+pub mod WritersRise
+pub mod RangesOnce
+pub mod CopyTells
