@@ -48,3 +48,5 @@ pub mod BeforeBegin
 pub mod WritersRise
 pub mod RangesOnce
 pub mod CopyTells
+pub mod CopyFits
+pub mod OneCopyOf
