@@ -15,7 +15,7 @@ use Rattle.protocol.specs.OneCopy.{before_begin}
 use Rattle.protocol_laws.proofs.BegunFirst.{BegunFirst}
 use Rattle.protocol_laws.proofs.Fronts.{IsFront, Splits, InFirst, InSecond, splits}
 use Rattle.protocol_laws.proofs.KeepsTime.{decided-begun}
-use Rattle.protocol_laws.proofs.OrderGrows.{noted-committed}
+use Rattle.protocol_laws.proofs.Orders.{commit-told}
 use Rattle.protocol_laws.proofs.OrderOf.{order-front, order-noted}
 use Rattle.protocol_laws.proofs.Standing.{StandsIn-filter, StandsIn-left, StandsIn-right}
 use Rattle.protocol_laws.proofs.TransactionsLists.{same_txn-eq}
@@ -31,7 +31,7 @@ first_of_each-there (t ∷ ts) txn (inr s) = go (same_txn t txn) refl (first_of_
     go false e r = inr (StandsIn-filter (λ u. not (same_txn t u)) (first_of_each ts) txn r (ap not e))
 
 pub noted-order : (h : List Note) (txn : TxId) → StandsIn (Decide txn Commit) h → StandsIn txn (order_of h)
-noted-order h txn s = first_of_each-there _ txn (noted-committed h txn s)
+noted-order h txn s = first_of_each-there _ txn (commit-told h txn s)
 
 -- a history, cut where a transaction begins
 pub before_begin-front : (h : List Note) (txn : TxId) → IsFront (before_begin h txn) h

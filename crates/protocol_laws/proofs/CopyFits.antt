@@ -24,7 +24,8 @@ use Rattle.protocol_laws.proofs.LegalOrder.{legal-each}
 use Rattle.protocol_laws.proofs.NamesOnce.{same_name-eq, same_name-self}
 use Rattle.protocol_laws.proofs.PayloadReads.{Passing, any-Passing}
 use Rattle.protocol_laws.proofs.RangesOnce.{find-range}
-use Rattle.protocol_laws.proofs.WithPast.{all-of, any-of}
+use Rattle.protocol_laws.proofs.Standing.{all-from}
+use Rattle.protocol_laws.proofs.WithPast.{any-from}
 
 -- a reading of an object at a version, with the value that it told
 record IsReading (name : List ℕ) (version : ℕ) (n : Note) : Type 0 where
@@ -63,7 +64,7 @@ read-fits tests h past t p r l s a =
       copy-told tests h past t p r reading.value l s (reading-Told tests h past t p r.name r.version reading.value l (subst (λ n. StandsIn n (before_begin h t)) reading.is one.there)) in
     both ((copy_after (payloads_of h past) r.name).version == r.version) (list_all (tells_value r.name r.version (copy_after (payloads_of h past) r.name).value) (before_begin h t))
     (eq-eqb (copy_after (payloads_of h past) r.name).version r.version (ap (λ c. c.version) copy))
-    (all-of (tells_value r.name r.version (copy_after (payloads_of h past) r.name).value) (before_begin h t) (λ n there. tells_value-of r.name r.version (copy_after (payloads_of h past) r.name).value n (λ other is.
+    (all-from (tells_value r.name r.version (copy_after (payloads_of h past) r.name).value) (before_begin h t) (λ n there. tells_value-of r.name r.version (copy_after (payloads_of h past) r.name).value n (λ other is.
       let same : copy_after (payloads_of h past) r.name ≡ record { version = r.version; value = other } =
         copy-told tests h past t p r other l s (reading-Told tests h past t p r.name r.version other l (subst (λ m. StandsIn m (before_begin h t)) is there)) in
       sym (ap (λ c. c.value) same))))
@@ -75,7 +76,7 @@ copy-bound name most old [] b h = b
 copy-bound name most old (x ∷ xs) b h = copy-bound name most (overwritten old x.version (find (λ w. same_name w.name name) x.writes)) xs (go (find (λ w. same_name w.name name) x.writes) refl) (λ y s. h y (inr s))
   where
     wrote : (ws : List WritePart) (w : WritePart) → find (λ v. same_name v.name name) ws ≡ Some w → writes_name ws name ≡ true
-    wrote ws w e = let f : StandsIn w ws × (same_name w.name name ≡ true) = find-StandsIn (λ v. same_name v.name name) ws w e in any-of (λ v. same_name v.name name) ws w f.0 f.1
+    wrote ws w e = let f : StandsIn w ws × (same_name w.name name ≡ true) = find-StandsIn (λ v. same_name v.name name) ws w e in any-from (λ v. same_name v.name name) ws w f.0 f.1
 
     go : (o : Option WritePart) → find (λ w. same_name w.name name) x.writes ≡ o → (overwritten old x.version o).version ≤ most
     go None e = b
@@ -94,7 +95,7 @@ range-seen p q name i s h n =
 -- a range
 pub range-fits : (tests : Tests) (h : List Note) (past : List TxId) (t : TxId) (p : Accesses) (q : RangePart) → Place tests h past t p → StandsIn q p.ranges → range_fits (payloads_of h past) p.reads q ≡ true
 range-fits tests h past t p q l s =
-    all-of (λ (w : WritePart). not (in_range_part w.name q) || reads_name p.reads w.name || nat_le (copy_after (payloads_of h past) w.name).version q.version) (flat_map (λ (x : Accesses). x.writes) (payloads_of h past))
+    all-from (λ (w : WritePart). not (in_range_part w.name q) || reads_name p.reads w.name || nat_le (copy_after (payloads_of h past) w.name).version q.version) (flat_map (λ (x : Accesses). x.writes) (payloads_of h past))
     (λ w there. go w.name (in_range_part w.name q) (reads_name p.reads w.name) refl refl)
   where
     bound : (name : List ℕ) → in_range_part name q ≡ true → reads_name p.reads name ≡ false → (x : Accesses) → StandsIn x (payloads_of h past) → writes_name x.writes name ≡ true → x.version ≤ q.version
@@ -114,5 +115,5 @@ pub copy-fits : (tests : Tests) (h : List Note) (past : List TxId) (t : TxId) (p
 copy-fits tests h past t p l honest =
     subst (λ o. fits_copy (before_begin h t) (payloads_of h past) o ≡ true) (sym l.payload)
     (both (list_all (read_fits (before_begin h t) (payloads_of h past)) p.reads) (list_all (range_fits (payloads_of h past) p.reads) p.ranges)
-    (all-of (read_fits (before_begin h t) (payloads_of h past)) p.reads (λ r s. read-fits tests h past t p r l s (all-StandsIn (λ (x : ReadPart). list_any (tells_version x.name x.version) (before_begin h t)) p.reads r honest s)))
-    (all-of (range_fits (payloads_of h past) p.reads) p.ranges (λ q s. range-fits tests h past t p q l s)))
+    (all-from (read_fits (before_begin h t) (payloads_of h past)) p.reads (λ r s. read-fits tests h past t p r l s (all-StandsIn (λ (x : ReadPart). list_any (tells_version x.name x.version) (before_begin h t)) p.reads r honest s)))
+    (all-from (range_fits (payloads_of h past) p.reads) p.ranges (λ q s. range-fits tests h past t p q l s)))

@@ -18,12 +18,11 @@ use Rattle.protocol_laws.proofs.BeforeBegin.{before_begin-front, committed-befor
 use Rattle.protocol_laws.proofs.BegunFirst.{BegunFirst}
 use Rattle.protocol_laws.proofs.CopyAfter.{copy-unwritten, copy-written}
 use Rattle.protocol_laws.proofs.Fronts.{IsFront, payload_in-kept}
-use Rattle.protocol_laws.proofs.KeepsTime.{IsSplitAt, split-at}
+use Rattle.protocol_laws.proofs.WithPast.{StandsBetween, any-from, stands_between}
 use Rattle.protocol_laws.proofs.LegalOrder.{IsOf, legal-each, payloads-append, payloads-first, payloads-IsOf}
 use Rattle.protocol_laws.proofs.NamesOnce.{same_name-self}
 use Rattle.protocol_laws.proofs.PayloadReads.{checks-orders, reads-bound, write-found}
 use Rattle.protocol_laws.proofs.Standing.{StandsIn-left, StandsIn-right}
-use Rattle.protocol_laws.proofs.WithPast.{any-of}
 use Rattle.protocol_laws.proofs.WritersRise.{IsLegal, rise-in-order}
 
 -- what readings tell: nothing that was never written, or what a transaction wrote that was committed before
@@ -50,12 +49,12 @@ pub reading-Told : (tests : Tests) (h : List Note) (past : List TxId) (t : TxId)
     → StandsIn (ReadValue name version value) (before_begin h t) → Told h past name version value
 reading-Told tests h past t p name version value l s =
     let cut : IsFront (before_begin h t) h = before_begin-front h t in
-    let at : IsSplitAt (before_begin h t) (ReadValue name version value) = split-at (before_begin h t) (ReadValue name version value) s in
+    let at : StandsBetween (ReadValue name version value) (before_begin h t) = stands_between (before_begin h t) (ReadValue name version value) s in
     let whole : h ≡ at.before ++ (ReadValue name version value ∷ (at.after ++ cut.rest)) =
       cut.is ∙ ap (λ ns. ns ++ cut.rest) at.is ∙ append_assoc at.before (ReadValue name version value ∷ at.after) cut.rest in
     go at whole (l.told at.before (at.after ++ cut.rest) name version value whole)
   where
-    go : (at : IsSplitAt (before_begin h t) (ReadValue name version value)) → h ≡ at.before ++ (ReadValue name version value ∷ (at.after ++ (before_begin-front h t).rest))
+    go : (at : StandsBetween (ReadValue name version value) (before_begin h t)) → h ≡ at.before ++ (ReadValue name version value ∷ (at.after ++ (before_begin-front h t).rest))
         → ((version ≡ 0) × (value ≡ [])) ⊎ IsWrittenBefore at.before name version value → Told h past name version value
     go at whole (inl n) = Never n.0 n.1
     go at whole (inr w) =
@@ -89,9 +88,9 @@ copy-told tests h past t p r value l s (Never z e) =
       omega (arith, bound, some, z)))
     ∙ ap (λ n. record { version = n; value = [] }) (sym z) ∙ ap (λ v. record { version = r.version; value = v }) (sym e)
 copy-told tests h past t p r value l s (Written w q there payload version writes) =
-    let at : IsSplitAt past w = split-at past w there in
+    let at : StandsBetween w past = stands_between past w there in
     let one : WritePart = record { name = r.name; value = value } in
-    let wrote : writes_name q.writes r.name ≡ true = any-of (λ (v : WritePart). same_name v.name r.name) q.writes one writes (same_name-self r.name) in
+    let wrote : writes_name q.writes r.name ≡ true = any-from (λ (v : WritePart). same_name v.name r.name) q.writes one writes (same_name-self r.name) in
     let found : find (λ (v : WritePart). same_name v.name r.name) q.writes ≡ Some one = write-found q one (l.legal.payloads w q payload) writes in
     let split : payloads_of h past ≡ payloads_of h at.before ++ (q ∷ payloads_of h at.after) =
       ap (λ ts. payloads_of h ts) at.is ∙ payloads-append h at.before (w ∷ at.after) ∙ ap (λ ps. payloads_of h at.before ++ ps) (payloads-first h w at.after q payload) in

@@ -107,16 +107,10 @@ pub mod EntriesRows
 pub mod EntriesListed
 pub mod EntriesAppended
 pub mod EntriesAnswered
-pub mod WithPast
-pub mod OrderOf
-pub mod BegunFirst
-pub mod AgreesOf
-pub mod KeepsTime
 pub mod NamesOnce
 pub mod PayloadReads
 pub mod LegalOrder
 pub mod CopyAfter
-pub mod OrderGrows
 pub mod BeforeBegin
 pub mod WritersRise
 pub mod RangesOnce

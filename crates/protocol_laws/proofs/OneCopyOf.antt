@@ -17,7 +17,7 @@ use Rattle.protocol_laws.proofs.CopyFits.{copy-fits}
 use Rattle.protocol_laws.proofs.CopyTells.{Place, TellsWritten}
 use Rattle.protocol_laws.proofs.LegalOrder.{with_past-each}
 use Rattle.protocol_laws.proofs.TransactionsLists.{same_txn-eq}
-use Rattle.protocol_laws.proofs.WithPast.{with_past-all}
+use Rattle.protocol_laws.proofs.WithPast.{all-with_past}
 use Rattle.protocol_laws.proofs.WritersRise.{IsLegal}
 
 -- a transaction's beginning stands where the history is cut for it
@@ -62,7 +62,7 @@ has_payload tests h before t after l e = go (payload_in h t) refl (with_past-eac
 
 pub one_copy-of : (tests : Tests) (h : List Note) → IsLegal tests h → BegunFirst h → TellsWritten h → ChecksReads tests → is_honest h ≡ true → is_one_copy h ≡ true
 one_copy-of tests h l b told c honest =
-    with_past-all (λ e. fits_copy (before_begin h e.1) (payloads_of h e.0) (payload_in h e.1)) (order_of h) fits
+    all-with_past (λ e. fits_copy (before_begin h e.1) (payloads_of h e.0) (payload_in h e.1)) (order_of h) fits
   where
     fits : (before : List TxId) (t : TxId) (after : List TxId) → order_of h ≡ before ++ (t ∷ after) → fits_copy (before_begin h t) (payloads_of h before) (payload_in h t) ≡ true
     fits before t after e =

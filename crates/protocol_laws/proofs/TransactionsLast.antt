@@ -65,6 +65,7 @@ found_nothing-on t u txn shard o f = record {
   grown = f.grown;
   grown_there = f.grown_there;
   grown_name = f.grown_name;
+  still = f.still;
   entry = f.entry;
   appended = f.appended;
   of_txn = f.of_txn;

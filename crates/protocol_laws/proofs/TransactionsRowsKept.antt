@@ -57,9 +57,9 @@ lost_is_none tests rows (Some p) e = absurd (let a : is_lost (vote_on tests rows
 
 -- what a leader appends fits, and if it has no payload, this is the event at which the shard found nothing
 new_entry_fits : (tests : Tests) (setup : Deployment) (t : Moment) (event : Event) (h : Happening) → Turn tests setup t event h → (a : Acted tests setup.version t.now event h)
-    → (txn : TxId) (shards : List ℕ) (part : Option Accesses) → is_leader a.node.role ≡ true → row_of a.node.rows txn ≡ None → a.out.kept.rows ≡ a.node.rows ++ undecided (new_entry tests a.node.rows txn shards part) ∷ []
+    → (txn : TxId) (shards : List ℕ) (part : Option Accesses) → is_leader a.node.role ≡ true → row_of a.node.rows txn ≡ None → a.out.kept.rows ≡ a.node.rows ++ undecided (new_entry tests a.node.rows txn shards part) ∷ [] → a.out.kept.role ≡ a.node.role
     → PrepareFits setup.shards t a.node.shard txn shards part → EntryFits setup.shards (goes_to t h.after) a.node.shard (new_entry tests a.node.rows txn shards part)
-new_entry_fits tests setup t event h turn a txn shards part lead none rows f =
+new_entry_fits tests setup t event h turn a txn shards part lead none rows still f =
     let g : Goes t (goes_to t h.after) = goes_of tests setup t event h turn in record {
       payload = f.payload;
       begun = is_begun-on t (goes_to t h.after) txn f.payload g f.begun;
@@ -80,6 +80,7 @@ new_entry_fits tests setup t event h turn a txn shards part lead none rows f =
         grown = a.out.kept;
         grown_there = acted_there tests setup.version t.now event h a (kept_name tests setup.version a.node a.input a.out a.effect);
         grown_name = kept_name tests setup.version a.node a.input a.out a.effect;
+        still = still;
         entry = new_entry tests a.node.rows txn shards part;
         appended = rows;
         of_txn = refl;
