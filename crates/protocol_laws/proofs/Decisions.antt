@@ -41,7 +41,8 @@ use Rattle.protocol_laws.proofs.TransactionsCame.NodeCame.{WasThere, HasActed}
 use Rattle.protocol_laws.proofs.TransactionsCame.MessageCame.{WasThereBefore, NodeSent, ServiceSent}
 use Rattle.protocol_laws.proofs.TransactionsCame.NoteCame.{WasNotedBefore, NodeNoted}
 use Rattle.protocol_laws.proofs.TransactionsLast.{noted-on}
-use Rattle.protocol_laws.proofs.TransactionsNotes.{goes_of, kept_shard}
+use Rattle.protocol_laws.proofs.TransactionsNotes.{goes_of}
+use Rattle.protocol_laws.proofs.TransferEvents.{effect_shard}
 
 -- a kept outcome after an input: it was kept, or the message told it
 outcome_came : (txn other : TxId) (decision told : Decision) (outcomes : List (TxId × Decision)) → StandsIn (txn, decision) (with_outcome outcomes other told) → StandsIn (txn, decision) outcomes ⊎ ((other ≡ txn) × (told ≡ decision))
@@ -115,7 +116,7 @@ rows_hold tests setup t event h turn configurations node r n s = go (node_came t
         let holds : RowHolds (goes_to t h.after) a.node.shard a.out.kept.state r =
         acting_rows_hold tests setup.version setup t (goes_to t h.after) a.node a.input a.out r (acting_of tests setup t event h turn configurations a) a.effect (subst (λ (x : NodeRecord). StandsIn r x.rows) e s) in
         subst (λ (x : NodeRecord). RowHolds (goes_to t h.after) x.shard x.state r) (sym e)
-        (subst (λ x. RowHolds (goes_to t h.after) x a.out.kept.state r) (sym (kept_shard tests setup.version a.node a.input a.out a.effect)) holds)
+        (subst (λ x. RowHolds (goes_to t h.after) x a.out.kept.state r) (sym (effect_shard tests setup.version a.node a.input a.out a.effect)) holds)
 
 kept_kept : (tests : Tests) (setup : Deployment) (t : Moment) (event : Event) (h : Happening) → Turn tests setup t event h → ConfigurationsHold setup (goes_to t h.after) → (node : NodeRecord) (txn : TxId) (decision : Decision)
     → IsNode (goes_to t h.after) node → StandsIn (txn, decision) node.outcomes → WasNoted (goes_to t h.after) (notes.Decide txn decision)

@@ -21,8 +21,10 @@ use Rattle.protocol.proofs.Lists.{all-StandsIn, among-StandsIn, StandsIn-append}
 use Rattle.protocol_laws.specs.Effect.{OpenPart}
 use Rattle.protocol_laws.proofs.TransactionsActing.{Acting}
 use Rattle.protocol_laws.proofs.TransactionsCases.{put_part_came, part_is, IsPartOf}
-use Rattle.protocol_laws.proofs.TransactionsLists.{lookup-StandsIn, StandsIn-filter}
-use Rattle.protocol_laws.proofs.TransactionsPlaces.{one_config, view_is, IsView}
+use Rattle.protocol_laws.proofs.Standing.{StandsIn-filter}
+use Rattle.protocol_laws.proofs.TransactionsLists.{lookup-StandsIn}
+use Rattle.protocol_laws.proofs.Stored.{one_config}
+use Rattle.protocol_laws.proofs.TransactionsPlaces.{view_is, IsView}
 
 -- whoever acknowledged a listed entry held that entry; where all followers did, it is accepted
 pub all_held : (tests : Tests) (setup : Deployment) (t : Moment) (txn : TxId) (v : Membership) (entry : Preparation) (acks : List ℕ) → InvariantHolds tests setup t → IsStored t v → Listed t v entry

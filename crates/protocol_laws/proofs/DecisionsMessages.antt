@@ -36,7 +36,8 @@ use Rattle.protocol_laws.proofs.DecisionsRows.{acting_rows_hold}
 use Rattle.protocol_laws.proofs.DecisionsTaken.{MessageAgrees, SendsAgree, agree_both, agree_one, IsReady, goes_on_decided, goes_on_told}
 use Rattle.protocol_laws.proofs.TransactionsActing.{Acting}
 use Rattle.protocol_laws.proofs.TransactionsCases.{voted_case, acknowledged_case}
-use Rattle.protocol_laws.proofs.TransactionsLists.{IsImage, map-StandsIn, IsPiece, flat_map-StandsIn}
+use Rattle.protocol_laws.proofs.Standing.{IsMapped, map-StandsIn}
+use Rattle.protocol_laws.proofs.TransactionsLists.{IsPiece, flat_map-StandsIn}
 use Rattle.protocol_laws.proofs.TransactionsMessages.{SaysNothing, AreSilent, stage_silent, hears_silent, piece_row}
 use Rattle.protocol_laws.proofs.TransactionsMessages.SaysNothing.{IsProbe, IsProbeAck, IsNewConfig, IsLast, IsAt, IsCas}
 
@@ -64,7 +65,7 @@ accept_agrees : (t : Moment) (entry : Preparation) (acks : List ℕ) (view : Opt
 unfolding accept
 accept_agrees t entry acks None o s = absurd s
 accept_agrees t entry acks (Some v) o s =
-    let m : IsImage (λ node. to node (Accept v.epoch entry)) (filter (λ node. not (is_among acks node)) (followers v)) o = map-StandsIn (λ node. to node (Accept v.epoch entry)) (filter (λ node. not (is_among acks node)) (followers v)) o s in
+    let m : IsMapped (λ node. to node (Accept v.epoch entry)) (filter (λ node. not (is_among acks node)) (followers v)) o = map-StandsIn (λ node. to node (Accept v.epoch entry)) (filter (λ node. not (is_among acks node)) (followers v)) o s in
     subst (λ x. MessageAgrees t x.to x.message) (sym m.is) tt
 
 part_agrees : (t : Moment) (n : ℕ) (txn : TxId) (case : Case) (entry : Option Preparation) (acks : List ℕ) (view : Option Membership) → SendsAgree t (send_part n txn case entry acks view)
@@ -105,8 +106,8 @@ state_agrees t version c rows node f = go (version == 2)
 
     pieces : SendsAgree t (map piece (range_with_len 1 (piece_count rows)))
     pieces o s =
-        let m : IsImage piece (range_with_len 1 (piece_count rows)) o = map-StandsIn piece (range_with_len 1 (piece_count rows)) o s in
-        subst (λ x. MessageAgrees t x.to x.message) (sym m.is) (λ r k. f r (piece_row rows m.source r k))
+        let m : IsMapped piece (range_with_len 1 (piece_count rows)) o = map-StandsIn piece (range_with_len 1 (piece_count rows)) o s in
+        subst (λ x. MessageAgrees t x.to x.message) (sym m.is) (λ r k. f r (piece_row rows m.from r k))
 
     go : (b : Bool) → SendsAgree t (when b (map piece (range_with_len 1 (piece_count rows))) (to node (NewState c rows) ∷ []))
     go true = pieces

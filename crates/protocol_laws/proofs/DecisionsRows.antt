@@ -99,7 +99,7 @@ came_holds tests setup t u node _ out r a (WasMarked from epoch slot txn commit 
     let holds : RowHolds u node.shard node.state (set_mark (mark_of commit) old) =
     set_mark_holds u node.shard node.state commit old (row_holds-on t u node.shard node.state old a.goes.onward (a.before.decisions.rows node old a.is s)) behind in
     subst (λ e. RowHolds u node.shard e r) (sym state) (subst (λ x. RowHolds u node.shard node.state x) (sym is) holds)
-came_holds tests setup t u node _ out r a (WasAppended from epoch txn shards part lead none rows is) = subst (λ x. RowHolds u node.shard out.kept.state x) (sym is) (undecided_holds u node.shard out.kept.state (new_entry tests node.rows txn shards part))
+came_holds tests setup t u node _ out r a (WasAppended from epoch txn shards part lead none rows still is) = subst (λ x. RowHolds u node.shard out.kept.state x) (sym is) (undecided_holds u node.shard out.kept.state (new_entry tests node.rows txn shards part))
 came_holds tests setup t u node _ out r a (WasAccepted from epoch entry is) = subst (λ x. RowHolds u node.shard out.kept.state x) (sym is) (undecided_holds u node.shard out.kept.state entry)
 came_holds tests setup t u node _ out r a (WasWhole from c rows s shard epoch) = state_holds t u node c r out.kept.state a.goes.onward shard epoch (a.before.decisions.state from node.name c rows r (a.received from (NewState c rows) refl) s)
 came_holds tests setup t u node _ out r a (WasInPiece from c number pieces rows s shard epoch) = state_holds t u node c r out.kept.state a.goes.onward shard epoch (a.before.decisions.pieces from node.name number pieces c rows r (a.received from (StatePiece c number pieces rows) refl) s)

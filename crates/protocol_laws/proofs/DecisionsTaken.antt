@@ -25,8 +25,10 @@ use Rattle.protocol_laws.specs.Effect.GoesOn.{Waiting, Decides}
 use Rattle.protocol_laws.proofs.Lasting.{accepted-on}
 use Rattle.protocol_laws.proofs.DecisionsAccepted.{IsAcceptedPart, complete_part, PartsHold}
 use Rattle.protocol_laws.proofs.TransactionsActing.{Acting}
-use Rattle.protocol_laws.proofs.TransactionsLists.{IsImage, map-StandsIn, IsPiece, flat_map-StandsIn}
-use Rattle.protocol_laws.proofs.TransactionsPlaces.{member_shard, view_is, IsView}
+use Rattle.protocol_laws.proofs.Standing.{IsMapped, map-StandsIn}
+use Rattle.protocol_laws.proofs.TransactionsLists.{IsPiece, flat_map-StandsIn}
+use Rattle.protocol_laws.proofs.TransactionsPlaces.{view_is, IsView}
+use Rattle.protocol_laws.proofs.TransferConfigs.{member_shard}
 
 -- what a message to a node tells of decisions agrees with decisions that were taken
 abbrev pub MessageAgrees : Moment → ℕ → Message → Type 0
@@ -95,7 +97,7 @@ told_members tests setup t u node input out txn decision p a q noted =
   where
     tells : SendsAgree u (tell_members txn (commits decision) (Some q.entry) (Some q.view))
     tells o s =
-        let m : IsImage (λ node. to node (DecisionFor q.view.epoch q.entry.slot txn (commits decision))) q.view.members o =
+        let m : IsMapped (λ node. to node (DecisionFor q.view.epoch q.entry.slot txn (commits decision))) q.view.members o =
         map-StandsIn (λ node. to node (DecisionFor q.view.epoch q.entry.slot txn (commits decision))) q.view.members o s in
         let accepted : Accepted u q.view q.entry = accepted-on t u q.view q.entry a.goes.onward q.accepted in
         subst (λ x. MessageAgrees u x.to x.message) (sym m.is) (λ at i e. record {
@@ -104,7 +106,7 @@ told_members tests setup t u node input out txn decision p a q noted =
           sense = refl;
           entry = q.entry;
           config = q.view;
-          of_shard = sym (member_shard setup u q.view at a.configurations accepted.stored (subst (λ x. StandsIn x q.view.members) (sym e) m.among) i);
+          of_shard = sym (member_shard setup u a.configurations q.view at accepted.stored i (subst (λ x. StandsIn x q.view.members) (sym e) m.there));
           until = le_refl q.view.epoch;
           accepted = accepted;
           at_slot = refl;

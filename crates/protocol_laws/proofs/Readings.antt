@@ -1,5 +1,5 @@
 -- One event keeps what is so of readings.
-use Rattle.std.proofs.Common.{◌≡◌, ℕ, List, [], ◌∷◌, ◌++◌, ◌⊎◌, inl, inr, sym, ◌∙◌, ap, ap₂, subst, refl, append-nil}
+use Rattle.std.proofs.Common.{◌≡◌, ℕ, List, [], ◌∷◌, ◌++◌, ◌⊎◌, inl, inr, sym, ◌∙◌, ap, subst, refl, append-nil}
 use Rattle.tcs_terms.specs.declared.inputs.Event.{Event}
 use Rattle.tcs_terms.specs.declared.inputs.Input.{Input}
 use Rattle.tcs_terms.specs.declared.inputs.Note.{Note}
@@ -29,26 +29,11 @@ use Rattle.protocol_laws.specs.Effect.{GoesOn, Effect}
 use Rattle.protocol_laws.specs.Effect.GoesOn.{Waiting, Decides}
 use Rattle.protocol_laws.specs.Effect.Effect.{Certifies, TakesOver, Reads, Votes, Acknowledges}
 use Rattle.protocol_laws.specs.Turn.{Turn}
+use Rattle.protocol_laws.proofs.Fronts.{Splits, splits}
+use Rattle.protocol_laws.proofs.Fronts.Splits.{InFirst, InSecond}
 use Rattle.protocol_laws.proofs.ReadingsLast.{is_reading, read_was_written}
 use Rattle.protocol_laws.proofs.TransactionsCame.{HistoryCame, history_came}
 use Rattle.protocol_laws.proofs.TransactionsCame.HistoryCame.{NothingNoted, NodeNotes}
-
--- an element of two lists that are joined: what stands before it
-pub data StandsAt {X : Type 0} (xs ys before : List X) (x : X) (after : List X) : Type 0 where
-  InFirst : (rest : List X) → xs ≡ before ++ (x ∷ rest) → StandsAt xs ys before x after
-  InSecond : (front : List X) → before ≡ xs ++ front → ys ≡ front ++ (x ∷ after) → StandsAt xs ys before x after
-
-stands_at : {X : Type 0} (xs ys before : List X) (x : X) (after : List X) → xs ++ ys ≡ before ++ (x ∷ after) → StandsAt xs ys before x after
-stands_at [] ys before x after e = InSecond before refl e
-stands_at {X = X} (z ∷ zs) ys [] x after e = InFirst zs (let q : z ≡ x = cc e in ap (λ w. w ∷ zs) q)
-stands_at {X = X} (z ∷ zs) ys (b ∷ bs) x after e = go (stands_at zs ys bs x after (let q : zs ++ ys ≡ bs ++ (x ∷ after) = cc e in q))
-  where
-    head : z ≡ b
-    head = cc e
-
-    go : StandsAt zs ys bs x after → StandsAt (z ∷ zs) ys (b ∷ bs) x after
-    go (InFirst rest q) = InFirst rest (ap₂ (λ w ws. w ∷ ws) head q)
-    go (InSecond front p q) = InSecond front (ap₂ (λ w ws. w ∷ ws) (sym head) p) q
 
 no_note : (front : List Note) (x : Note) (after : List Note) → [] ≡ front ++ (x ∷ after) → ⊥
 no_note [] x after e = cc e
@@ -113,10 +98,10 @@ readings_kept tests setup t event h turn configurations promises answers choice 
   where
     each : (earlier later : List Note) (name : List ℕ) (version : ℕ) (value : List ℕ) → h.after.history ≡ earlier ++ (notes.ReadValue name version value ∷ later) → HistoryCame tests setup.version t.now event h → Tells earlier name version value
     each earlier later name version value e (NothingNoted same) = turn.before.readings.each earlier later name version value (sym same ∙ e)
-    each earlier later name version value e (NodeNotes a grown) = go (stands_at t.now.history a.out.notes earlier (notes.ReadValue name version value) later (sym grown ∙ e))
+    each earlier later name version value e (NodeNotes a grown) = go (splits t.now.history a.out.notes earlier (notes.ReadValue name version value) later (sym grown ∙ e))
       where
-        go : StandsAt t.now.history a.out.notes earlier (notes.ReadValue name version value) later → Tells earlier name version value
-        go (InFirst rest q) = turn.before.readings.each earlier rest name version value q
+        go : Splits t.now.history a.out.notes earlier (notes.ReadValue name version value) later → Tells earlier name version value
+        go (InFirst rest q more) = turn.before.readings.each earlier rest name version value q
         go (InSecond front before notes) =
             let r : IsRead a.node front name version value = acting_reads tests setup.version a.node a.input a.out front name version value later a.effect notes in
             let now : earlier ≡ t.now.history = before ∙ ap (λ ns. t.now.history ++ ns) r.first ∙ append-nil t.now.history in

@@ -20,7 +20,7 @@ use Rattle.protocol.specs.Invariant.Readings.{IsWrittenBefore}
 use Rattle.protocol.specs.Invariant.Time.{Moment, StandsIn, IsNode}
 use Rattle.protocol.specs.Invariant.Transactions.{IsPart, EntryFits, TransactionsHold}
 use Rattle.protocol.proofs.Lists.{find-StandsIn}
-use Rattle.protocol_laws.proofs.TransactionsLists.{filter-StandsIn}
+use Rattle.protocol_laws.proofs.Standing.{filter-StandsIn}
 
 -- the reading that a committed row gives
 pub record IsReadFrom (rows : List Row) (name : List ℕ) (reading : Reading) : Type 0 where

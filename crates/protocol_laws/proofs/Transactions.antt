@@ -25,7 +25,8 @@ use Rattle.protocol_laws.proofs.TransactionsCame.MessageCame.{WasThereBefore, No
 use Rattle.protocol_laws.proofs.TransactionsCases.{acting_cases}
 use Rattle.protocol_laws.proofs.TransactionsLast.{entry_fits-on, message_fits-on, case_fits-on}
 use Rattle.protocol_laws.proofs.TransactionsMessages.{acting_sends}
-use Rattle.protocol_laws.proofs.TransactionsNotes.{goes_of, numbers_kept, kept_shard}
+use Rattle.protocol_laws.proofs.TransactionsNotes.{goes_of, numbers_kept}
+use Rattle.protocol_laws.proofs.TransferEvents.{effect_shard}
 
 served_fits : (n : ℕ) (t : Moment) (shard : ℕ) (m : Message) → IsServed m → MessageFits n t shard m
 served_fits n t shard _ (ServesStored c) = tt
@@ -39,7 +40,7 @@ rows_kept tests setup t event h turn configurations node r n s = go (node_came t
     go : NodeCame tests setup.version t.now event h node → EntryFits setup.shards (goes_to t h.after) node.shard r.entry
     go (WasThere k) = entry_fits-on setup.shards t (goes_to t h.after) node.shard r.entry (goes_of tests setup t event h turn) (turn.before.transactions.rows node r k s)
     go (HasActed a e) =
-        let shard : node.shard ≡ a.node.shard = subst (λ (x : NodeRecord). x.shard ≡ a.node.shard) (sym e) (kept_shard tests setup.version a.node a.input a.out a.effect) in
+        let shard : node.shard ≡ a.node.shard = subst (λ (x : NodeRecord). x.shard ≡ a.node.shard) (sym e) (effect_shard tests setup.version a.node a.input a.out a.effect) in
         subst (λ x. EntryFits setup.shards (goes_to t h.after) x r.entry) (sym shard)
         ((acting_of tests setup t event h turn configurations a).rows r (subst (λ (x : NodeRecord). StandsIn r x.rows) e s))
 

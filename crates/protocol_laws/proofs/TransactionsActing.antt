@@ -20,23 +20,20 @@ use Rattle.protocol.specs.Invariant.Time.{Moment, goes_to, StandsIn, IsNode, Was
 use Rattle.protocol.specs.Invariant.Transactions.{IsBegun, EntryFits}
 use Rattle.protocol_laws.specs.Turn.{Turn}
 use Rattle.protocol_laws.proofs.TransactionsBegun.{begun_now}
-use Rattle.protocol_laws.proofs.TransactionsCame.{Acted, acted_there}
+use Rattle.protocol_laws.proofs.TransactionsCame.{Acted}
 use Rattle.protocol_laws.proofs.TransactionsLast.{Goes}
-use Rattle.protocol_laws.proofs.TransactionsLists.{StandsIn-right}
-use Rattle.protocol_laws.proofs.TransactionsNotes.{goes_of, kept_name, kept_shard}
+use Rattle.protocol_laws.proofs.Standing.{StandsIn-right}
+use Rattle.protocol_laws.proofs.TransactionsNotes.{goes_of}
 use Rattle.protocol_laws.proofs.TransactionsReceived.{received}
 use Rattle.protocol_laws.proofs.TransactionsRowsKept.{acted_rows_fit}
 
--- At the earlier moment the invariant holds, and the node stands there. At the later one its new record does, with what
--- it noted; what it took had been sent to it; a transaction that it begins has begun; and its rows fit.
+-- At the earlier moment the invariant holds, and the node stands there. At the later one what it noted stands in the
+-- history; what it took had been sent to it; a transaction that it begins has begun; and its rows fit.
 pub record Acting (tests : Tests) (setup : Deployment) (t u : Moment) (node : NodeRecord) (input : Input) (out : Out NodeRecord) : Type 0 where
   pub goes : Goes t u
   pub before : InvariantHolds tests setup t
   pub configurations : ConfigurationsHold setup u
   pub is : IsNode t node
-  pub there : IsNode u out.kept
-  pub name : out.kept.name ≡ node.name
-  pub shard : out.kept.shard ≡ node.shard
   pub received : (from : ℕ) (m : Message) → input ≡ inputs.Deliver from m → WasSent t from node.name m
   pub noted : (note : Note) → StandsIn note out.notes → WasNoted u note
   pub begun : (payload : Accesses) → out.notes ≡ notes.Begin (next_txn node) payload ∷ [] → IsBegun u (next_txn node) payload
@@ -49,9 +46,6 @@ acting_of tests setup t event h turn configurations a = record {
   before = turn.before;
   configurations = configurations;
   is = a.there;
-  there = acted_there tests setup.version t.now event h a (kept_name tests setup.version a.node a.input a.out a.effect);
-  name = kept_name tests setup.version a.node a.input a.out a.effect;
-  shard = kept_shard tests setup.version a.node a.input a.out a.effect;
   received = λ from m e. received tests setup t event h from m turn a e;
   noted = λ note s. subst (λ (x : Happening). StandsIn note x.after.history) (sym a.happens) (StandsIn-right t.now.history a.out.notes note s);
   begun = λ payload e. begun_now tests setup t event h turn a payload e;

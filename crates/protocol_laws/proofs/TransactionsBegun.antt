@@ -17,7 +17,8 @@ use Rattle.protocol.specs.Invariant.Transactions.{IsBegun}
 use Rattle.protocol_laws.specs.Turn.{Turn}
 use Rattle.protocol_laws.proofs.TransactionsCame.{Acted, acted_back}
 use Rattle.protocol_laws.proofs.TransactionsLists.{same_txn-eq}
-use Rattle.protocol_laws.proofs.TransactionsNotes.{BeginsNext, begins_next, kept_name}
+use Rattle.protocol_laws.proofs.TransactionsNotes.{BeginsNext, begins_next}
+use Rattle.protocol_laws.proofs.TransferEvents.{effect_name}
 
 pub same_txn-refl : (a : TxId) → same_txn a a ≡ true
 same_txn-refl a = ap (λ b. b && (a.seq == a.seq)) (eq-eqb a.home a.home refl) ∙ eq-eqb a.seq a.seq refl
@@ -61,9 +62,9 @@ begun_now tests setup t event h turn a payload e =
       given = λ node n q. given node q (acted_back tests setup.version t.now event h node a n);
     }
   where
-    begins : BeginsNext a.node a.input a.out.kept (next_txn a.node) payload
+    begins : BeginsNext a.node a.out.kept (next_txn a.node)
     begins = begins_next tests setup.version a.node a.input a.out (next_txn a.node) payload a.effect (subst (λ ns. StandsIn (notes.Begin (next_txn a.node) payload) ns) (sym e) (inl refl))
 
     given : (node : NodeRecord) → node.name ≡ a.node.name → (node ≡ a.out.kept) ⊎ (StandsIn node t.now.nodes × (node.name ≡ a.out.kept.name → ⊥)) → a.node.next < node.next
     given node q (inl k) = let next : node.next ≡ a.node.next + 1 = ap (λ x. x.next) k ∙ begins.next in omega (arith, next)
-    given node q (inr p) = absurd (p.1 (q ∙ sym (kept_name tests setup.version a.node a.input a.out a.effect)))
+    given node q (inr p) = absurd (p.1 (q ∙ sym (effect_name tests setup.version a.node a.input a.out a.effect)))

@@ -22,7 +22,7 @@ use Rattle.protocol_laws.specs.Change.Change.{Passes, Stops, Acts, AtService}
 use Rattle.protocol_laws.specs.Effect.{AreNotices, Effect}
 use Rattle.protocol_laws.specs.Effect.AreNotices.{Silent, Notice}
 use Rattle.protocol_laws.proofs.After.{put_node-back, put_node-there, IsNew, sent-back}
-use Rattle.protocol_laws.proofs.TransactionsLists.{IsImage, map-StandsIn}
+use Rattle.protocol_laws.proofs.Standing.{IsMapped, map-StandsIn}
 
 -- a node acted
 pub record Acted (tests : Tests) (version : ℕ) (w : World) (event : Event) (h : Happening) : Type 0 where
@@ -73,7 +73,7 @@ notices_are_served _ o (Notice node kind mark why) (inr s) = absurd s
 told_is_served : (nodes : ℕ) (c : Membership) (o : Outgoing) → StandsIn o (tell_nodes nodes c) → IsServed o.message
 unfolding tell_nodes
 told_is_served nodes c o s =
-    let i : IsImage (λ node. to node (ConfigChange c)) (range_with_len 1 nodes) o = map-StandsIn (λ node. to node (ConfigChange c)) (range_with_len 1 nodes) o s in
+    let i : IsMapped (λ node. to node (ConfigChange c)) (range_with_len 1 nodes) o = map-StandsIn (λ node. to node (ConfigChange c)) (range_with_len 1 nodes) o s in
     subst (λ m. IsServed m.message) (sym i.is) (ServesChange c)
 
 serves_served : (nodes : ℕ) (configs : List Membership) (from : ℕ) (message : Message) (out : Out (List Membership)) (o : Outgoing) → Serves nodes configs from message out → StandsIn o out.sends → IsServed o.message

@@ -29,7 +29,8 @@ use Rattle.protocol_laws.specs.Effect.GoesOn.{Waiting, Decides}
 use Rattle.protocol_laws.specs.Effect.Effect.{Certifies, TakesOver, Votes, Acknowledges, Changes, Learns}
 use Rattle.protocol_laws.proofs.TransactionsActing.{Acting}
 use Rattle.protocol_laws.proofs.TransactionsLast.{entry_fits-on, case_fits-on, is_begun-on}
-use Rattle.protocol_laws.proofs.TransactionsLists.{IsImage, map-StandsIn, same_txn-eq, lookup-StandsIn, set_value-StandsIn, remove_entry-StandsIn}
+use Rattle.protocol_laws.proofs.Standing.{IsMapped, map-StandsIn}
+use Rattle.protocol_laws.proofs.TransactionsLists.{same_txn-eq, lookup-StandsIn, set_value-StandsIn, remove_entry-StandsIn}
 use Rattle.protocol_laws.proofs.TransactionsPlaces.{views_length}
 
 -- all cases of a coordinator fit
@@ -48,8 +49,8 @@ put_part_came part parts p s = go (map-StandsIn (λ (q : Part). cond (q.shard ==
     at old true k q = inr q
     at old false k q = inl (subst (λ x. StandsIn x parts) (sym q) k)
 
-    go : IsImage (λ (q : Part). cond (q.shard == part.shard) part q) parts p → StandsIn p parts ⊎ (p ≡ part)
-    go i = at i.source (i.source.shard == part.shard) i.among i.is
+    go : IsMapped (λ (q : Part). cond (q.shard == part.shard) part q) parts p → StandsIn p parts ⊎ (p ≡ part)
+    go i = at i.from (i.from.shard == part.shard) i.there i.is
 
 -- the part of a shard is among the parts, and is of that shard
 pub record IsPartOf (parts : List Part) (shard : ℕ) (part : Part) : Type 0 where
@@ -100,7 +101,7 @@ acknowledged_fits n t txn case shard part from f e =
 
 -- a new case has voted nothing
 nothing_voted : (shards : List ℕ) (p : Part) (entry : Preparation) → StandsIn p (map asked shards) → p.entry ≡ Some entry → ⊥
-nothing_voted shards p entry s e = let i : IsImage asked shards p = map-StandsIn asked shards p s in let q : p.entry ≡ None = ap (λ (x : Part). x.entry) i.is in cc (q, e)
+nothing_voted shards p entry s e = let i : IsMapped asked shards p = map-StandsIn asked shards p s in let q : p.entry ≡ None = ap (λ (x : Part). x.entry) i.is in cc (q, e)
 
 pub certified_fits : (tests : Tests) (setup : Deployment) (t u : Moment) (node : NodeRecord) (input : Input) (out : Out NodeRecord) (payload : Accesses) → Acting tests setup t u node input out
     → out.notes ≡ notes.Begin (next_txn node) payload ∷ [] → CaseFits setup.shards u (next_txn node) (new_case (shards_of (length node.coordinator.views) payload) (Some payload))
@@ -150,14 +151,14 @@ ask_again_fits n t txn case shard f = record {
     at p entry old true e s q = absurd (let z : p.entry ≡ None = ap (λ (x : Part). x.entry) q in cc (z, e))
     at p entry old false e s q = f.voted p entry (subst (λ x. StandsIn x case.parts) (sym q) s) e
 
-    from : (p : Part) (entry : Preparation) → p.entry ≡ Some entry → IsImage (λ (q : Part). cond (q.shard == shard) (asked shard) q) case.parts p → EntryFits n t p.shard entry
-    from p entry e i = at p entry i.source (i.source.shard == shard) e i.among i.is
+    from : (p : Part) (entry : Preparation) → p.entry ≡ Some entry → IsMapped (λ (q : Part). cond (q.shard == shard) (asked shard) q) case.parts p → EntryFits n t p.shard entry
+    from p entry e i = at p entry i.from (i.from.shard == shard) e i.there i.is
 
 change_view_fits : (n : ℕ) (t : Moment) (c : Coordinator) (config : Membership) → CasesFit n t c → CasesFit n t (change_view c config)
 unfolding change_view
 change_view_fits n t c config k x y s =
-    let i : IsImage (λ (e : TxId × Case). (e.0, ask_again config.shard e.1)) c.cases (x, y) = map-StandsIn (λ (e : TxId × Case). (e.0, ask_again config.shard e.1)) c.cases (x, y) s in
-    subst (λ (p : TxId × Case). CaseFits n t p.0 p.1) (sym i.is) (ask_again_fits n t i.source.0 i.source.1 config.shard (k i.source.0 i.source.1 i.among))
+    let i : IsMapped (λ (e : TxId × Case). (e.0, ask_again config.shard e.1)) c.cases (x, y) = map-StandsIn (λ (e : TxId × Case). (e.0, ask_again config.shard e.1)) c.cases (x, y) s in
+    subst (λ (p : TxId × Case). CaseFits n t p.0 p.1) (sym i.is) (ask_again_fits n t i.from.0 i.from.1 config.shard (k i.from.0 i.from.1 i.there))
 
 sees_fits : (n : ℕ) (t : Moment) (c : Coordinator) (config : Membership) (new : Coordinator) (sends : List Outgoing) → CasesFit n t c → Sees c config new sends → CasesFit n t new
 sees_fits n t c config _ _ k (Replaces h) = change_view_fits n t c config k

@@ -1,5 +1,5 @@
 -- What is so of transactions, entries and cases stays so.
-use Rattle.std.proofs.Common.{◌≡◌, ℕ, ◌<◌, ◌≤◌, List, [], ◌∷◌, ◌++◌, filter, length, Option, Some, None, is_some, ◌⊎◌, inl, inr, sym, ◌∙◌, ap, subst, arith}
+use Rattle.std.proofs.Common.{◌≡◌, ℕ, ◌<◌, ◌≤◌, List, ◌∷◌, filter, length, Option, Some, None, is_some, ◌⊎◌, inl, inr, sym, ◌∙◌, ap, subst, arith}
 use Rattle.tcs_terms.specs.declared.ids.TxId.{TxId}
 use Rattle.tcs_terms.specs.declared.inputs.Note.{Note}
 use Rattle.tcs_terms.specs.declared.messages.Message.{Message}
@@ -12,33 +12,25 @@ use Rattle.tcs_terms.specs.declared.votes.Vote.{Vote}
 use Rattle.tcs_terms.specs.declared.votes.Vote.TheVariants as votes
 use Rattle.tcs_terms.specs.Payloads.{Accesses}
 use Rattle.tcs_terms.specs.Preparations.{Preparation}
-use Rattle.protocol.specs.History.{begins_with, payload_in, first_some}
+use Rattle.protocol.specs.History.{begins_with, payload_in}
 use Rattle.protocol.specs.Records.{Case}
 use Rattle.protocol.specs.Invariant.Time.{Moment, StandsIn, WasNoted}
 use Rattle.protocol.specs.Invariant.Transactions.{IsBegun, HasBegun, WasTaken, FoundNothingBy, IsPart, VoteNames, CauseNames, DecisionNames, EntryFits, PrepareFits, MessageFits, CaseFits}
 use Rattle.protocol_laws.specs.Turn.{Onward, GrewFrom}
-use Rattle.protocol_laws.proofs.TransactionsLists.{StandsIn-left}
+use Rattle.protocol_laws.proofs.Fronts.{payload_in-kept}
+use Rattle.protocol_laws.proofs.Standing.{StandsIn-left}
 
 -- One event later: nothing is taken away, and what had begun did not begin again.
 pub record Goes (t u : Moment) : Type 0 where
   pub onward : Onward t u
   pub once : (txn : TxId) (payload : Accesses) → IsBegun t txn payload → length (filter (λ n. is_some (begins_with txn n)) u.now.history) ≡ 1
 
-pub payload_in-more : (h more : List Note) (txn : TxId) (payload : Accesses) → payload_in h txn ≡ Some payload → payload_in (h ++ more) txn ≡ Some payload
-payload_in-more [] more txn payload e = absurd (cc e)
-payload_in-more (n ∷ ns) more txn payload e = go (begins_with txn n) e (payload_in-more ns more txn payload)
-  where
-    go : (b : Option Accesses) → first_some b (payload_in ns txn) ≡ Some payload → (payload_in ns txn ≡ Some payload → payload_in (ns ++ more) txn ≡ Some payload)
-        → first_some b (payload_in (ns ++ more) txn) ≡ Some payload
-    go None k ih = ih k
-    go (Some p) k ih = k
-
 pub noted-on : (t u : Moment) (note : Note) → Onward t u → WasNoted t note → WasNoted u note
 noted-on t u note o s = subst (λ h. StandsIn note h) (sym o.history) (StandsIn-left t.now.history o.notes note s)
 
 pub is_begun-on : (t u : Moment) (txn : TxId) (payload : Accesses) → Goes t u → IsBegun t txn payload → IsBegun u txn payload
 is_begun-on t u txn payload g b = record {
-  first = subst (λ h. payload_in h txn ≡ Some payload) (sym g.onward.history) (payload_in-more t.now.history g.onward.notes txn payload b.first);
+  first = subst (λ h. payload_in h txn ≡ Some payload) (sym g.onward.history) (payload_in-kept t.now.history g.onward.notes txn payload b.first);
   once = g.once txn payload b;
   given = λ node n e. (
       let f : GrewFrom t node = g.onward.back node n in

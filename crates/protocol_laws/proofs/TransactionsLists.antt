@@ -1,54 +1,10 @@
--- What stands in lists that are joined, mapped, filtered, or kept by transaction.
-use Rattle.std.proofs.Common.{◌≡◌, ℕ, zero, suc, Bool, true, false, cond, List, [], ◌∷◌, ◌++◌, map, filter, flat_map, take, drop, Some, ◌==◌, ◌⊎◌, inl, inr, sym, ap, ap₂, subst, refl, eqb-true}
+-- What stands in lists that are joined by `flat_map`, cut, or kept by transaction.
+use Rattle.std.proofs.Common.{◌≡◌, ℕ, zero, suc, Bool, true, false, cond, List, [], ◌∷◌, ◌++◌, flat_map, take, drop, Some, ◌==◌, ◌⊎◌, inl, inr, sym, ap₂, subst, refl, eqb-true}
 use Rattle.std.specs.Map.{lookup, set_value, remove_entry}
 use Rattle.tcs_terms.specs.declared.ids.TxId.{TxId}
 use Rattle.tcs_terms.specs.Logs.{same_txn}
 use Rattle.protocol.specs.Invariant.Time.{StandsIn}
 use Rattle.protocol.proofs.FirstRoles.{and-left, and-right}
-
-pub StandsIn-left : {X : Type 0} (xs ys : List X) (x : X) → StandsIn x xs → StandsIn x (xs ++ ys)
-StandsIn-left [] ys x s = absurd s
-StandsIn-left (z ∷ zs) ys x (inl e) = inl e
-StandsIn-left (z ∷ zs) ys x (inr s) = inr (StandsIn-left zs ys x s)
-
-pub StandsIn-right : {X : Type 0} (xs ys : List X) (x : X) → StandsIn x ys → StandsIn x (xs ++ ys)
-StandsIn-right [] ys x s = s
-StandsIn-right (z ∷ zs) ys x s = inr (StandsIn-right zs ys x s)
-
--- the element that a mapped one comes from
-pub record IsImage {X Y : Type 0} (f : X → Y) (xs : List X) (y : Y) : Type 0 where
-  pub source : X
-  pub among : StandsIn source xs
-  pub is : y ≡ f source
-
-pub map-StandsIn : {X Y : Type 0} (f : X → Y) (xs : List X) (y : Y) → StandsIn y (map f xs) → IsImage f xs y
-map-StandsIn f [] y s = absurd s
-map-StandsIn f (x ∷ xs) y (inl e) = record { source = x; among = inl refl; is = e }
-map-StandsIn f (x ∷ xs) y (inr s) = let i : IsImage f xs y = map-StandsIn f xs y s in record { source = i.source; among = inr i.among; is = i.is }
-
-pub StandsIn-map : {X Y : Type 0} (f : X → Y) (xs : List X) (x : X) → StandsIn x xs → StandsIn (f x) (map f xs)
-StandsIn-map f [] x s = absurd s
-StandsIn-map f (y ∷ ys) x (inl e) = inl (ap f e)
-StandsIn-map f (y ∷ ys) x (inr s) = inr (StandsIn-map f ys x s)
-
-pub filter-StandsIn : {X : Type 0} (p : X → Bool) (xs : List X) (x : X) → StandsIn x (filter p xs) → StandsIn x xs × (p x ≡ true)
-filter-StandsIn p [] x s = absurd s
-filter-StandsIn {X = X} p (y ∷ ys) x s = go (p y) refl s (filter-StandsIn p ys x)
-  where
-    go : (b : Bool) → p y ≡ b → StandsIn x (cond b (y ∷ filter p ys) (filter p ys)) → (StandsIn x (filter p ys) → StandsIn x ys × (p x ≡ true)) → StandsIn x (y ∷ ys) × (p x ≡ true)
-    go true e (inl q) ih = (inl q, cc)
-    go true e (inr q) ih = (inr (ih q).0, (ih q).1)
-    go false e q ih = (inr (ih q).0, (ih q).1)
-
-pub StandsIn-filter : {X : Type 0} (p : X → Bool) (xs : List X) (x : X) → StandsIn x xs → p x ≡ true → StandsIn x (filter p xs)
-StandsIn-filter p [] x s h = absurd s
-StandsIn-filter {X = X} p (y ∷ ys) x s h = go (p y) refl s (λ r. StandsIn-filter p ys x r h)
-  where
-    go : (b : Bool) → p y ≡ b → StandsIn x (y ∷ ys) → (StandsIn x ys → StandsIn x (filter p ys)) → StandsIn x (cond b (y ∷ filter p ys) (filter p ys))
-    go true e (inl q) ih = inl q
-    go true e (inr q) ih = inr (ih q)
-    go false e (inl q) ih = absurd (let k : p x ≡ p y = ap p q in cc (k, e, h))
-    go false e (inr q) ih = ih q
 
 -- the element whose list a joined one comes from
 pub record IsPiece {X Y : Type 0} (f : X → List Y) (xs : List X) (y : Y) : Type 0 where

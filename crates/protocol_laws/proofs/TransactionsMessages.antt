@@ -37,7 +37,8 @@ use Rattle.protocol_laws.specs.Effect.Effect.{Rests, Certifies, TakesOver, Nudge
 use Rattle.protocol_laws.proofs.TransactionsActing.{Acting}
 use Rattle.protocol_laws.proofs.TransactionsCases.{acting_cases, old_cases_fit, voted_now, voted_case, acknowledged_case}
 use Rattle.protocol_laws.proofs.TransactionsLast.{has_begun-on}
-use Rattle.protocol_laws.proofs.TransactionsLists.{IsImage, map-StandsIn, IsPiece, flat_map-StandsIn, take-StandsIn, drop-StandsIn, StandsIn-right}
+use Rattle.protocol_laws.proofs.Standing.{IsMapped, map-StandsIn, StandsIn-right}
+use Rattle.protocol_laws.proofs.TransactionsLists.{IsPiece, flat_map-StandsIn, take-StandsIn, drop-StandsIn}
 use Rattle.protocol_laws.proofs.TransactionsPlaces.{view_is, views_length, IsView}
 use Rattle.protocol_laws.proofs.TransactionsSends.{SendsFit, sends_both, sends_one, AreViews, case_sends, resends, accept_sends, leader_asked, decision_told}
 
@@ -75,7 +76,7 @@ one_fits n t one k = silent_fit n t (one ∷ []) (one_silent one k)
 probe_silent : (epoch : ℕ) (members : List ℕ) → AreSilent (probe epoch members)
 unfolding probe
 probe_silent epoch members o s =
-    let i : IsImage (λ node. to node (Probe epoch)) members o = map-StandsIn (λ node. to node (Probe epoch)) members o s in
+    let i : IsMapped (λ node. to node (Probe epoch)) members o = map-StandsIn (λ node. to node (Probe epoch)) members o s in
     subst (λ x. SaysNothing x.message) (sym i.is) (IsProbe epoch)
 
 pub stage_silent : (stage : Stage) → AreSilent (ask_stage stage)
@@ -118,8 +119,8 @@ state_fits n t version c rows node f = go (version == 2)
 
     pieces : SendsFit n t (map piece (range_with_len 1 (piece_count rows)))
     pieces o s at i e =
-        let m : IsImage piece (range_with_len 1 (piece_count rows)) o = map-StandsIn piece (range_with_len 1 (piece_count rows)) o s in
-        subst (λ x. MessageFits n t at.shard x.message) (sym m.is) (λ r k. f r (piece_row rows m.source r k))
+        let m : IsMapped piece (range_with_len 1 (piece_count rows)) o = map-StandsIn piece (range_with_len 1 (piece_count rows)) o s in
+        subst (λ x. MessageFits n t at.shard x.message) (sym m.is) (λ r k. f r (piece_row rows m.from r k))
 
     go : (b : Bool) → SendsFit n t (when b (map piece (range_with_len 1 (piece_count rows))) (to node (NewState c rows) ∷ []))
     go true = pieces

@@ -19,7 +19,7 @@ use Rattle.protocol.specs.Invariant.Time.{Moment, goes_to, StandsIn, IsNode, Was
 use Rattle.protocol.specs.Invariant.Transactions.{IsBegun}
 use Rattle.protocol_laws.specs.Effect.{Effect, GoesOn}
 use Rattle.protocol_laws.specs.Effect.GoesOn.{Waiting, Decides}
-use Rattle.protocol_laws.specs.Effect.Effect.{Rests, Certifies, TakesOver, Reads, Votes, Acknowledges}
+use Rattle.protocol_laws.specs.Effect.Effect.{Certifies, TakesOver, Reads, Votes, Acknowledges}
 use Rattle.protocol_laws.specs.Turn.{Turn, GrewFrom}
 use Rattle.protocol_laws.proofs.OnwardOf.{onward_of}
 use Rattle.protocol_laws.proofs.TransactionsLists.{same_txn-eq}
@@ -27,6 +27,7 @@ use Rattle.protocol_laws.proofs.TransactionsLast.{Goes}
 use Rattle.protocol_laws.proofs.TransactionsCame.{Acted, HistoryCame, NoteCame, history_came, note_came, acted_back}
 use Rattle.protocol_laws.proofs.TransactionsCame.HistoryCame.{NothingNoted, NodeNotes}
 use Rattle.protocol_laws.proofs.TransactionsCame.NoteCame.{WasNotedBefore, NodeNoted}
+use Rattle.protocol_laws.proofs.TransferEvents.{effect_name}
 
 -- a case that goes on notes no beginning
 goes_on-begins : (c : Coordinator) (txn : TxId) (case : Case) (sends : List Outgoing) (out : Out Coordinator) (begun : TxId) (payload : Accesses) → GoesOn c txn case sends out
@@ -36,12 +37,12 @@ goes_on-begins c txn case sends _ begun payload (Decides h) (inl e) = cc e
 goes_on-begins c txn case sends _ begun payload (Decides h) (inr s) = s
 
 -- the transaction that a node notes as begun is its next one
-pub record BeginsNext (node : NodeRecord) (input : Input) (new : NodeRecord) (txn : TxId) (payload : Accesses) : Type 0 where
+pub record BeginsNext (node new : NodeRecord) (txn : TxId) : Type 0 where
   pub is : txn ≡ next_txn node
   pub next : new.next ≡ node.next + 1
 
 pub begins_next : (tests : Tests) (version : ℕ) (node : NodeRecord) (input : Input) (out : Out NodeRecord) (txn : TxId) (payload : Accesses) → Effect tests version node input out
-    → StandsIn (notes.Begin txn payload) out.notes → BeginsNext node input out.kept txn payload
+    → StandsIn (notes.Begin txn payload) out.notes → BeginsNext node out.kept txn
 begins_next tests version node _ _ txn payload (Certifies p l case e) (inl q) = record { is = cc q; next = refl }
 begins_next tests version node _ _ txn payload (Certifies p l case e) (inr s) = absurd s
 begins_next tests version node _ _ txn payload (TakesOver t row a b c d case e) (inl q) = absurd (cc q)
@@ -51,14 +52,6 @@ begins_next tests version node _ _ txn payload (Reads name h) (inr s) = absurd s
 begins_next tests version node _ _ txn payload (Votes from shard epoch entry case part view o a b c out g) s = absurd (goes_on-begins _ _ _ _ out txn payload g s)
 begins_next tests version node _ _ txn payload (Acknowledges from shard epoch slot t case part view o a b c out g) s = absurd (goes_on-begins _ _ _ _ out txn payload g s)
 begins_next tests version node _ _ txn payload _ s = absurd s
-
-pub kept_name : (tests : Tests) (version : ℕ) (node : NodeRecord) (input : Input) (out : Out NodeRecord) → Effect tests version node input out → out.kept.name ≡ node.name
-kept_name tests version node _ _ (Rests input answer notices n) = refl
-kept_name tests version node _ _ _ = refl
-
-pub kept_shard : (tests : Tests) (version : ℕ) (node : NodeRecord) (input : Input) (out : Out NodeRecord) → Effect tests version node input out → out.kept.shard ≡ node.shard
-kept_shard tests version node _ _ (Rests input answer notices n) = refl
-kept_shard tests version node _ _ _ = refl
 
 -- notes of which none passes add nothing to a count
 count_more : (p : Note → Bool) (h more : List Note) → ((n : Note) → StandsIn n more → p n ≡ false) → length (filter p (h ++ more)) ≡ length (filter p h)
@@ -77,7 +70,7 @@ begins_none tests version t event h txn payload (notes.Begin other p) b a s = go
   where
     go : (v : Bool) → same_txn other txn ≡ v → is_some (cond v (Some p) None) ≡ false
     go true e =
-        let i : BeginsNext a.node a.input a.out.kept other p = begins_next tests version a.node a.input a.out other p a.effect s in
+        let i : BeginsNext a.node a.out.kept other = begins_next tests version a.node a.input a.out other p a.effect s in
         let same : txn ≡ next_txn a.node = sym (same_txn-eq other txn e) ∙ i.is in
         let home : a.node.name ≡ txn.home = ap (λ x. x.home) (sym same) in
         let seq : txn.seq ≡ a.node.next = ap (λ x. x.seq) same in
@@ -112,9 +105,9 @@ numbers_kept tests setup t event h turn txn payload node noted n e = go (note_ca
         let rise : grown.old.next ≤ node.next = grown.grows.next in omega (arith, below, rise)
     go (NodeNoted a s) = fresh a (begins_next tests setup.version a.node a.input a.out txn payload a.effect s) (acted_back tests setup.version t.now event h node a n)
       where
-        fresh : (a : Acted tests setup.version t.now event h) → BeginsNext a.node a.input a.out.kept txn payload → (node ≡ a.out.kept) ⊎ (StandsIn node t.now.nodes × (node.name ≡ a.out.kept.name → ⊥)) → txn.seq < node.next
+        fresh : (a : Acted tests setup.version t.now event h) → BeginsNext a.node a.out.kept txn → (node ≡ a.out.kept) ⊎ (StandsIn node t.now.nodes × (node.name ≡ a.out.kept.name → ⊥)) → txn.seq < node.next
         fresh a i (inl q) =
             let seq : txn.seq ≡ a.node.next = ap (λ x. x.seq) i.is in
             let next : node.next ≡ a.node.next + 1 = ap (λ x. x.next) q ∙ i.next in
             omega (arith, seq, next)
-        fresh a i (inr p) = absurd (p.1 (e ∙ ap (λ x. x.home) i.is ∙ sym (kept_name tests setup.version a.node a.input a.out a.effect)))
+        fresh a i (inr p) = absurd (p.1 (e ∙ ap (λ x. x.home) i.is ∙ sym (effect_name tests setup.version a.node a.input a.out a.effect)))

@@ -1,7 +1,5 @@
 -- Where each row of a node comes from, after it acted.
-use Rattle.std.proofs.Common.{◌≡◌, ℕ, ◌≤◌, Bool, true, false, cond, List, [], ◌∷◌, ◌++◌, filter, Option, Some, None, ◌&&◌, ◌==◌, nat_lt, ◌⊎◌, inl, inr, sym, ◌∙◌, ap, subst, refl, arith, eqb-true}
-use Rattle.std.specs.Cmp.Lexicographic.{pointwise}
-use Rattle.std.proofs.Common.{nat_eq}
+use Rattle.std.proofs.Common.{◌≡◌, ℕ, ◌≤◌, Bool, true, false, cond, List, [], ◌∷◌, ◌++◌, filter, Option, Some, None, ◌==◌, nat_lt, ◌⊎◌, inl, inr, sym, ◌∙◌, ap, subst, refl, arith, eqb-true}
 use Rattle.tcs_terms.specs.declared.ids.TxId.{TxId}
 use Rattle.tcs_terms.specs.declared.inputs.Input.{Input}
 use Rattle.tcs_terms.specs.declared.inputs.Input.TheVariants as inputs
@@ -16,14 +14,15 @@ use Rattle.protocol.specs.Outcomes.{Out}
 use Rattle.protocol.specs.Pieces.{is_kept, with_piece, rows_of, with_one_more, begun, is_gathering_of, gathering_for}
 use Rattle.protocol.specs.Records.{Role, Gathering, Piece, NodeRecord}
 use Rattle.protocol.specs.Records.Role.{Fenced}
-use Rattle.protocol.specs.ShardRules.{is_leader, least}
+use Rattle.protocol.specs.ShardRules.{is_leader}
 use Rattle.protocol.specs.Invariant.Promises.{FitsRole}
 use Rattle.protocol.specs.Invariant.Time.{StandsIn}
-use Rattle.protocol.proofs.FirstRoles.{and-left, and-right}
 use Rattle.protocol.proofs.Lists.{StandsIn-append}
-use Rattle.protocol_laws.specs.Effect.{Effect, MayFollow}
+use Rattle.protocol_laws.proofs.TransferPieces.{with_piece-StandsIn, same_config-is}
+use Rattle.protocol_laws.specs.Effect.{Effect}
 use Rattle.protocol_laws.specs.Effect.Effect.{Appends, Accepts, Marks, Leads, Follows, FollowsPieces}
-use Rattle.protocol_laws.proofs.TransactionsLists.{IsImage, map-StandsIn, filter-StandsIn, IsPiece, flat_map-StandsIn}
+use Rattle.protocol_laws.proofs.Standing.{IsMapped, map-StandsIn, filter-StandsIn}
+use Rattle.protocol_laws.proofs.TransactionsLists.{IsPiece, flat_map-StandsIn}
 
 -- A row that a node has after an input: it was there, got a mark, or came with the input or a piece that was kept.
 pub data RowCame (tests : Tests) (node new : NodeRecord) (r : Row) : Input → Type 0 where
@@ -31,7 +30,7 @@ pub data RowCame (tests : Tests) (node new : NodeRecord) (r : Row) : Input → T
   WasMarked : (from epoch slot : ℕ) (txn : TxId) (commit : Bool) (old : Row) → epoch ≤ node.state → new.state ≡ node.state → has_at node.rows slot txn ≡ true → StandsIn old node.rows → old.entry.slot ≡ slot → r ≡ set_mark (mark_of commit) old
       → RowCame tests node new r (inputs.Deliver from (DecisionFor epoch slot txn commit))
   WasAppended : (from epoch : ℕ) (txn : TxId) (shards : List ℕ) (part : Option Accesses) → is_leader node.role ≡ true → row_of node.rows txn ≡ None
-      → new.rows ≡ node.rows ++ undecided (new_entry tests node.rows txn shards part) ∷ [] → r ≡ undecided (new_entry tests node.rows txn shards part)
+      → new.rows ≡ node.rows ++ undecided (new_entry tests node.rows txn shards part) ∷ [] → new.role ≡ node.role → r ≡ undecided (new_entry tests node.rows txn shards part)
       → RowCame tests node new r (inputs.Deliver from (Prepare epoch txn shards part))
   WasAccepted : (from epoch : ℕ) (entry : Preparation) → r ≡ undecided entry → RowCame tests node new r (inputs.Deliver from (Accept epoch entry))
   WasWhole : (from : ℕ) (c : Membership) (rows : List Row) → StandsIn r rows → c.shard ≡ node.shard → c.epoch ≡ new.state → RowCame tests node new r (inputs.Deliver from (NewState c rows))
@@ -45,41 +44,20 @@ pub data PieceCame (gathering : Option Gathering) (config : Membership) (piece p
   IsNewPiece : p ≡ piece → PieceCame gathering config piece p
   IsOldPiece : (g : Gathering) → gathering ≡ Some g → StandsIn p g.kept → g.config.shard ≡ config.shard → g.config.epoch ≡ config.epoch → PieceCame gathering config piece p
 
-one_more_came : (g : Gathering) (piece p : Piece) → StandsIn p (with_one_more g piece).kept → (p ≡ piece) ⊎ StandsIn p g.kept
+one_more_came : (g : Gathering) (piece p : Piece) → StandsIn p (with_one_more g piece).kept → StandsIn p g.kept ⊎ (p ≡ piece)
 one_more_came g piece p s = go (is_kept g.kept piece.number) s
   where
-    put : StandsIn p (with_piece g.kept piece) → (p ≡ piece) ⊎ StandsIn p g.kept
-    put s = elim (StandsIn-append (filter (λ q. nat_lt q.number piece.number) g.kept) (piece ∷ filter (λ q. nat_lt piece.number q.number) g.kept) p s) [
-      | inl k ↦ inr (filter-StandsIn (λ (q : Piece). nat_lt q.number piece.number) g.kept p k).0
-      | inr (inl e) ↦ inl e
-      | inr (inr k) ↦ inr (filter-StandsIn (λ (q : Piece). nat_lt piece.number q.number) g.kept p k).0
-    ]
-
-    go : (b : Bool) → StandsIn p (cond b g (record { config = g.config; pieces = g.pieces; kept = with_piece g.kept piece })).kept → (p ≡ piece) ⊎ StandsIn p g.kept
-    go true k = inr k
-    go false k = put k
-
-same_shard : (g : Gathering) (config : Membership) → is_gathering_of g config ≡ true → g.config.shard ≡ config.shard
-same_shard g config h =
-    eqb-true g.config.shard config.shard (and-left (g.config.shard == config.shard) (g.config.epoch == config.epoch)
-    (and-left ((g.config.shard == config.shard) && (g.config.epoch == config.epoch)) (pointwise nat_eq g.config.members config.members)
-    (and-left ((g.config.shard == config.shard) && (g.config.epoch == config.epoch) && pointwise nat_eq g.config.members config.members) (g.config.leader == config.leader)
-    (and-left ((g.config.shard == config.shard) && (g.config.epoch == config.epoch) && pointwise nat_eq g.config.members config.members && (g.config.leader == config.leader)) (g.config.by == config.by) h))))
-
-same_epoch : (g : Gathering) (config : Membership) → is_gathering_of g config ≡ true → g.config.epoch ≡ config.epoch
-same_epoch g config h =
-    eqb-true g.config.epoch config.epoch (and-right (g.config.shard == config.shard) (g.config.epoch == config.epoch)
-    (and-left ((g.config.shard == config.shard) && (g.config.epoch == config.epoch)) (pointwise nat_eq g.config.members config.members)
-    (and-left ((g.config.shard == config.shard) && (g.config.epoch == config.epoch) && pointwise nat_eq g.config.members config.members) (g.config.leader == config.leader)
-    (and-left ((g.config.shard == config.shard) && (g.config.epoch == config.epoch) && pointwise nat_eq g.config.members config.members && (g.config.leader == config.leader)) (g.config.by == config.by) h))))
+    go : (b : Bool) → StandsIn p (cond b g (record { config = g.config; pieces = g.pieces; kept = with_piece g.kept piece })).kept → StandsIn p g.kept ⊎ (p ≡ piece)
+    go true k = inl k
+    go false k = with_piece-StandsIn g.kept piece p k
 
 pub piece_came : (gathering : Option Gathering) (config : Membership) (pieces : ℕ) (piece p : Piece) → StandsIn p (with_one_more (gathering_for gathering config pieces) piece).kept → PieceCame gathering config piece p
-piece_came None config pieces piece p s = elim (one_more_came (begun config pieces) piece p s) [ inl e ↦ IsNewPiece e | inr k ↦ absurd k ]
+piece_came None config pieces piece p s = elim (one_more_came (begun config pieces) piece p s) [ inr e ↦ IsNewPiece e | inl k ↦ absurd k ]
 piece_came (Some g) config pieces piece p s = go (is_gathering_of g config) refl s
   where
     go : (b : Bool) → is_gathering_of g config ≡ b → StandsIn p (with_one_more (cond b g (begun config pieces)) piece).kept → PieceCame (Some g) config piece p
-    go true e k = elim (one_more_came g piece p k) [ inl q ↦ IsNewPiece q | inr q ↦ IsOldPiece g refl q (same_shard g config e) (same_epoch g config e) ]
-    go false e k = elim (one_more_came (begun config pieces) piece p k) [ inl q ↦ IsNewPiece q | inr q ↦ absurd q ]
+    go true e k = elim (one_more_came g piece p k) [ inr q ↦ IsNewPiece q | inl q ↦ IsOldPiece g refl q (ap (λ (c : Membership). c.shard) (same_config-is g.config config e)) (ap (λ (c : Membership). c.epoch) (same_config-is g.config config e)) ]
+    go false e k = elim (one_more_came (begun config pieces) piece p k) [ inr q ↦ IsNewPiece q | inl q ↦ absurd q ]
 
 -- a row among those that a follower accepted an entry into
 accepted_came : (rows : List Row) (entry : Preparation) (r : Row) → StandsIn r (accepted rows entry) → StandsIn r rows ⊎ (r ≡ undecided entry)
@@ -110,8 +88,8 @@ marked_came rows slot commit r s = go (map-StandsIn (λ (q : Row). cond (q.entry
     at old true k e q = inr (record { old = old; among = k; at_slot = eqb-true old.entry.slot slot e; is = q })
     at old false k e q = inl (subst (λ x. StandsIn x rows) (sym q) k)
 
-    go : IsImage (λ (q : Row). cond (q.entry.slot == slot) (set_mark (mark_of commit) q) q) rows r → StandsIn r rows ⊎ IsMarked rows slot commit r
-    go i = at i.source (i.source.entry.slot == slot) i.among refl i.is
+    go : IsMapped (λ (q : Row). cond (q.entry.slot == slot) (set_mark (mark_of commit) q) q) rows r → StandsIn r rows ⊎ IsMarked rows slot commit r
+    go i = at i.from (i.from.entry.slot == slot) i.there refl i.is
 
 -- a node's state epoch is at most its promise
 pub state_promised : (node : NodeRecord) (role : Role) → FitsRole node role → role ≡ Fenced → node.state ≤ node.promised
@@ -120,14 +98,10 @@ state_promised node Fenced (inr z) e = omega (arith, z.0)
 state_promised node (Role.Leader c) f e = absurd (cc e)
 state_promised node (Role.Follower c) f e = absurd (cc e)
 
--- a node that follows a configuration goes to a later epoch
-follows_later : (node : NodeRecord) (c : Membership) → MayFollow node c → node.state ≤ c.epoch
-follows_later node c m = let l : least node ≤ c.epoch = m.epoch in omega (arith, l)
-
 pub row_came : (tests : Tests) (version : ℕ) (node : NodeRecord) (input : Input) (out : Out NodeRecord) (r : Row) → FitsRole node node.role → Effect tests version node input out → StandsIn r out.kept.rows → RowCame tests node out.kept r input
 row_came tests version node _ _ r f (Appends from epoch txn shards part lead state among none room entry e) s = elim (StandsIn-append node.rows (undecided entry ∷ []) r s) [
   | inl k ↦ WasThere _ k (omega arith)
-  | inr (inl q) ↦ WasAppended from epoch txn shards part lead none (ap (λ x. node.rows ++ undecided x ∷ []) e) (q ∙ ap undecided e)
+  | inr (inl q) ↦ WasAppended from epoch txn shards part lead none (ap (λ x. node.rows ++ undecided x ∷ []) e) refl (q ∙ ap undecided e)
   | inr (inr k) ↦ absurd k
 ]
 row_came tests version node _ _ r f (Accepts from epoch entry a b c) s = elim (accepted_came node.rows entry r s) [ inl k ↦ WasThere _ k (omega arith) | inr e ↦ WasAccepted from epoch entry e ]

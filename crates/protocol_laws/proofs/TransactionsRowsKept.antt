@@ -21,10 +21,11 @@ use Rattle.protocol.proofs.Lists.{find-StandsIn}
 use Rattle.protocol_laws.specs.Turn.{Turn}
 use Rattle.protocol_laws.proofs.TransactionsCame.{Acted, acted_there}
 use Rattle.protocol_laws.proofs.TransactionsLast.{Goes, is_begun-on, is_part-on, entry_fits-on, has_begun-on}
-use Rattle.protocol_laws.proofs.TransactionsNotes.{goes_of, kept_name}
+use Rattle.protocol_laws.proofs.TransactionsNotes.{goes_of}
 use Rattle.protocol_laws.proofs.TransactionsReceived.{received_fits}
 use Rattle.protocol_laws.proofs.TransactionsRows.{RowCame, row_came}
 use Rattle.protocol_laws.proofs.TransactionsRows.RowCame.{WasThere, WasMarked, WasAppended, WasAccepted, WasWhole, WasInPiece, WasKept}
+use Rattle.protocol_laws.proofs.TransferEvents.{effect_name}
 
 not_lost : (row : Option Row) → is_lost (vote_by row) ≡ false
 not_lost None = refl
@@ -78,8 +79,8 @@ new_entry_fits tests setup t event h turn a txn shards part lead none rows still
         leads = lead;
         nothing = none;
         grown = a.out.kept;
-        grown_there = acted_there tests setup.version t.now event h a (kept_name tests setup.version a.node a.input a.out a.effect);
-        grown_name = kept_name tests setup.version a.node a.input a.out a.effect;
+        grown_there = acted_there tests setup.version t.now event h a (effect_name tests setup.version a.node a.input a.out a.effect);
+        grown_name = effect_name tests setup.version a.node a.input a.out a.effect;
         still = still;
         entry = new_entry tests a.node.rows txn shards part;
         appended = rows;
@@ -110,9 +111,9 @@ acted_rows_fit tests setup t event h turn a r s =
     go _ e (WasThere input k l) = on r.entry (turn.before.transactions.rows a.node r a.there k)
     go _ e (WasMarked from epoch slot txn commit old l q has k at is) =
         subst (λ (x : Row). EntryFits setup.shards (goes_to t h.after) a.node.shard x.entry) (sym is) (on old.entry (turn.before.transactions.rows a.node old a.there k))
-    go _ e (WasAppended from epoch txn shards part lead none rows is) =
+    go _ e (WasAppended from epoch txn shards part lead none rows still is) =
         subst (λ (x : Row). EntryFits setup.shards (goes_to t h.after) a.node.shard x.entry) (sym is)
-        (new_entry_fits tests setup t event h turn a txn shards part lead none rows (received_fits tests setup t event h from (Prepare epoch txn shards part) turn a e))
+        (new_entry_fits tests setup t event h turn a txn shards part lead none rows still (received_fits tests setup t event h from (Prepare epoch txn shards part) turn a e))
     go _ e (WasAccepted from epoch entry is) =
         subst (λ (x : Row). EntryFits setup.shards (goes_to t h.after) a.node.shard x.entry) (sym is) (on entry (received_fits tests setup t event h from (Accept epoch entry) turn a e))
     go _ e (WasWhole from c rows k shard epoch) = of_state c shard (received_fits tests setup t event h from (NewState c rows) turn a e r k)

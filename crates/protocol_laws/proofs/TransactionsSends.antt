@@ -22,8 +22,10 @@ use Rattle.protocol.specs.Invariant.Time.{Moment, StandsIn, IsNode, IsStored}
 use Rattle.protocol.specs.Invariant.Transactions.{HasBegun, WasTaken, IsPart, VoteNames, CauseNames, DecisionNames, EntryFits, PrepareFits, MessageFits, CaseFits}
 use Rattle.protocol.proofs.Lists.{find-StandsIn, StandsIn-append}
 use Rattle.protocol_laws.proofs.TransactionsCases.{CasesFit}
-use Rattle.protocol_laws.proofs.TransactionsLists.{IsImage, map-StandsIn, filter-StandsIn, IsPiece, flat_map-StandsIn}
-use Rattle.protocol_laws.proofs.TransactionsPlaces.{member_shard, leader_member, IsView}
+use Rattle.protocol_laws.proofs.Standing.{IsMapped, map-StandsIn, filter-StandsIn}
+use Rattle.protocol_laws.proofs.TransactionsLists.{IsPiece, flat_map-StandsIn}
+use Rattle.protocol_laws.proofs.TransactionsPlaces.{IsView}
+use Rattle.protocol_laws.proofs.TransferConfigs.{member_shard, leads_member}
 
 -- each message of these, to whichever node it goes, says what is so
 abbrev pub SendsFit : ℕ → Moment → List Outgoing → Type 0
@@ -52,7 +54,7 @@ prepare_sends setup t txn case None k f stored = λ o s node i e. absurd s
 prepare_sends setup t txn case (Some v) k f stored =
     sends_one setup.shards t (to v.leader (Prepare v.epoch txn case.shards (option_and_then (restricted setup.shards v.shard) case.payload))) (λ node i e.
     let is : IsStored t v = stored v refl in
-    let at : node.shard ≡ v.shard = member_shard setup t v node k is (subst (λ x. StandsIn x v.members) (sym e) (leader_member setup t v k is)) i in
+    let at : node.shard ≡ v.shard = member_shard setup t k v node is i (subst (λ x. StandsIn x v.members) (sym e) (leads_member setup t k v is)) in
     subst (λ shard. PrepareFits setup.shards t shard txn case.shards (option_and_then (restricted setup.shards v.shard) case.payload)) (sym at) (record {
       payload = f.payload;
       begun = f.begun;
@@ -69,11 +71,11 @@ pub accept_sends : (setup : Deployment) (t : Moment) (shard : ℕ) (entry : Prep
 unfolding accept
 accept_sends setup t shard entry acks None k f stored o s node i e = absurd s
 accept_sends setup t shard entry acks (Some v) k f stored o s node i e =
-    let m : IsImage (λ node. to node (Accept v.epoch entry)) (filter (λ node. not (is_among acks node)) (followers v)) o = map-StandsIn (λ node. to node (Accept v.epoch entry)) (filter (λ node. not (is_among acks node)) (followers v)) o s in
-    let member : StandsIn m.source v.members = follower_member v m.source (filter-StandsIn (λ node. not (is_among acks node)) (followers v) m.source m.among).0 in
+    let m : IsMapped (λ node. to node (Accept v.epoch entry)) (filter (λ node. not (is_among acks node)) (followers v)) o = map-StandsIn (λ node. to node (Accept v.epoch entry)) (filter (λ node. not (is_among acks node)) (followers v)) o s in
+    let member : StandsIn m.from v.members = follower_member v m.from (filter-StandsIn (λ node. not (is_among acks node)) (followers v) m.from m.there).0 in
     let is : IsView t shard v = stored v refl in
-    let name : node.name ≡ m.source = e ∙ ap (λ x. x.to) m.is in
-    let at : node.shard ≡ shard = member_shard setup t v node k is.stored (subst (λ x. StandsIn x v.members) (sym name) member) i ∙ is.of_shard in
+    let name : node.name ≡ m.from = e ∙ ap (λ x. x.to) m.is in
+    let at : node.shard ≡ shard = member_shard setup t k v node is.stored i (subst (λ x. StandsIn x v.members) (sym name) member) ∙ is.of_shard in
     subst (λ x. MessageFits setup.shards t node.shard x.message) (sym m.is) (subst (λ x. EntryFits setup.shards t x entry) (sym at) f)
 
 part_sends : (setup : Deployment) (t : Moment) (shard : ℕ) (txn : TxId) (case : Case) (entry : Option Preparation) (acks : List ℕ) (view : Option Membership) → ConfigurationsHold setup t → CaseFits setup.shards t txn case
@@ -134,7 +136,7 @@ members_told : (n : ℕ) (t : Moment) (txn : TxId) (commit : Bool) (entry : Opti
 members_told n t txn commit None view b o s node i e = absurd s
 members_told n t txn commit (Some entry) None b o s node i e = absurd s
 members_told n t txn commit (Some entry) (Some v) b o s node i e =
-    let m : IsImage (λ node. to node (DecisionFor v.epoch entry.slot txn commit)) v.members o = map-StandsIn (λ node. to node (DecisionFor v.epoch entry.slot txn commit)) v.members o s in
+    let m : IsMapped (λ node. to node (DecisionFor v.epoch entry.slot txn commit)) v.members o = map-StandsIn (λ node. to node (DecisionFor v.epoch entry.slot txn commit)) v.members o s in
     subst (λ x. MessageFits n t node.shard x.message) (sym m.is) b
 
 -- what is told of a decision
