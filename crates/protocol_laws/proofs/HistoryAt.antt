@@ -24,7 +24,7 @@ record IsSound (tests : Tests) (setup : Deployment) (t : Moment) : Type 0 where
   formed : ArePayloads t.now.history
   holds : HistoryHolds tests setup.shards t.now.history
 
-formed_event : (event : Event) → EventStands event → IsFormed event
+pub formed_event : (event : Event) → EventStands event → IsFormed event
 formed_event event s node payload e = subst EventStands e s
 
 sound_kept : (tests : Tests) (setup : Deployment) → IsLawful tests → IsKept tests setup EventStands (IsSound tests setup)

@@ -20,7 +20,7 @@ use Rattle.protocol_laws.proofs.KeepsTime.{keeps_time-of}
 use Rattle.protocol_laws.proofs.RunInduction.{invariant_at}
 
 -- what holds of the history at the last moment holds of the run's
-of_run : (tests : Tests) (setup : Deployment) (events : List Event) (P : List Note → Type 0) → P (time_after tests setup events).now.history → P (run tests setup events).history
+pub of_run : (tests : Tests) (setup : Deployment) (events : List Event) (P : List Note → Type 0) → P (time_after tests setup events).now.history → P (run tests setup events).history
 of_run tests setup events P p = subst (λ w. P w.history) (time_after-now tests setup events) p
 
 pub run_agrees : (tests : Tests) (setup : Deployment) (events : List Event) → AreEvents setup events → agrees (run tests setup events).history ≡ true

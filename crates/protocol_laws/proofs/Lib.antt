@@ -117,3 +117,4 @@ pub mod RangesOnce
 pub mod CopyTells
 pub mod CopyFits
 pub mod OneCopyOf
+pub mod CopyLaws
