@@ -49,5 +49,5 @@ pub history_at : (tests : Tests) (setup : Deployment) (events : List Event) → 
 history_at tests setup events lawful a p =
     let start : AreEvents setup [] = record { deployment = a.deployment; fit = refl } in
     let sound : IsSound tests setup (time_after tests setup events) =
-            run_induction tests setup EventStands (IsSound tests setup) (sound_kept tests setup lawful) (sound_starts tests setup (invariant_at tests setup [] start)) events a p in
+    run_induction tests setup EventStands (IsSound tests setup) (sound_kept tests setup lawful) (sound_starts tests setup (invariant_at tests setup [] start)) events a p in
     sound.holds

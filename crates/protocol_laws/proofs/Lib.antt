@@ -31,7 +31,6 @@ pub mod CorrectNotes
 pub mod Orders
 pub mod CorrectOrder
 pub mod CorrectOf
-pub mod Runs
 pub mod EffectOf
 pub mod ServesOf
 pub mod ChangeOf

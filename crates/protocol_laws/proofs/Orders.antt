@@ -1,17 +1,16 @@
 -- The order of committed transactions: each stands there at the place of its first decision to commit.
 use Rattle.std.proofs.Common.{◌≡◌, Bool, true, false, cond, not, List, [], ◌∷◌, ◌++◌, filter, filter_map, Option, Some, None, inl, inr, ◌⊎◌, sym, ◌∙◌, ap, subst, refl}
 use Rattle.std.specs.List.{cons_option}
-use Rattle.std.proofs.lemmas.Bool.{both_ways, not-true, not_from_false, false_from_ne_true}
+use Rattle.std.proofs.lemmas.Bool.{both_ways, not-true, not_from_false}
 use Rattle.tcs_terms.specs.declared.ids.TxId.{TxId}
 use Rattle.tcs_terms.specs.declared.inputs.Note.{Note}
 use Rattle.tcs_terms.specs.declared.inputs.Note.TheVariants.{Begin, Take, ReadValue, Decide}
-use Rattle.tcs_terms.specs.declared.votes.Decision.{Decision}
 use Rattle.tcs_terms.specs.declared.votes.Decision.TheVariants.{Commit, Abort}
 use Rattle.tcs_terms.specs.Logs.{same_txn}
-use Rattle.protocol.specs.History.{commit_in, commits_by, first_of_each, order_of}
+use Rattle.protocol.specs.History.{commit_in, first_of_each, order_of}
 use Rattle.protocol.specs.Invariant.Time.{StandsIn}
-use Rattle.protocol_laws.proofs.Standing.{filter-StandsIn}
-use Rattle.protocol_laws.proofs.WithPast.{same_txn-eq, same_txn-self}
+use Rattle.protocol_laws.proofs.TransactionsLists.{same_txn-eq}
+use Rattle.protocol_laws.proofs.WithPast.{same_txn-self}
 
 -- where an element of a filtered list stands in the whole list
 record StoodIn {X : Type 0} (p : X → Bool) (ys before : List X) (x : X) : Type 0 where
@@ -70,6 +69,7 @@ first_stands (y ∷ ys) (b ∷ bs) x after h =
   where
     q : y ≡ b
     q = cc h
+
     go : (f : StoodIn (λ u. not (same_txn y u)) (first_of_each ys) bs x) → FirstStands ys f.front x → FirstStands (y ∷ ys) (b ∷ bs) x
     go f r = record {
       front = y ∷ r.front;
@@ -98,12 +98,14 @@ commit_stands (n ∷ ns) before x after e = go n before e (λ bs k. commit_stand
   where
     more : (n : Note) (bs : List TxId) → commit_in n ≡ None → CommitStands ns bs x → CommitStands (n ∷ ns) bs x
     more n bs none r = record { front = n ∷ r.front; back = r.back; is = ap (λ zs. n ∷ zs) r.is; told = ap (λ o. cons_option o (filter_map commit_in r.front)) none ∙ r.told }
+
     commit : (txn : TxId) (bs : List TxId) → txn ∷ filter_map commit_in ns ≡ bs ++ (x ∷ after) → ((cs : List TxId) → filter_map commit_in ns ≡ cs ++ (x ∷ after) → CommitStands ns cs x) → CommitStands (Decide txn Commit ∷ ns) bs x
     commit txn [] k ih = record { front = []; back = ns; is = let q : txn ≡ x = cc k in ap (λ z. Decide z Commit ∷ ns) q; told = refl }
     commit txn (b ∷ bs) k ih =
         let r : CommitStands ns bs x = ih bs (cc k) in
         let q : txn ≡ b = cc k in
         record { front = Decide txn Commit ∷ r.front; back = r.back; is = ap (λ zs. Decide txn Commit ∷ zs) r.is; told = ap (λ zs. txn ∷ zs) r.told ∙ ap (λ z. z ∷ bs) q }
+
     go : (n : Note) (bs : List TxId) → cons_option (commit_in n) (filter_map commit_in ns) ≡ bs ++ (x ∷ after) → ((cs : List TxId) → filter_map commit_in ns ≡ cs ++ (x ∷ after) → CommitStands ns cs x) → CommitStands (n ∷ ns) bs x
     go (Begin txn payload) bs k ih = more (Begin txn payload) bs refl (ih bs k)
     go (Take txn) bs k ih = more (Take txn) bs refl (ih bs k)
@@ -155,12 +157,3 @@ is_ordered h before txn after e =
       committed = λ u s. told-commit c.front u (subst (λ zs. StandsIn u zs) (sym c.told) (f.among u s));
       ordered = λ u s. f.kept u (subst (λ zs. StandsIn u zs) c.told (commit-told c.front u s));
     }
-
--- whoever is in the order is decided to commit
-first_of_each-among : (xs : List TxId) (x : TxId) → StandsIn x (first_of_each xs) → StandsIn x xs
-first_of_each-among [] x s = absurd s
-first_of_each-among (y ∷ ys) x (inl e) = inl e
-first_of_each-among (y ∷ ys) x (inr s) = inr (first_of_each-among ys x (filter-StandsIn (λ u. not (same_txn y u)) (first_of_each ys) x s).0)
-
-pub order-committed : (h : List Note) (txn : TxId) → StandsIn txn (order_of h) → StandsIn (Decide txn Commit) h
-order-committed h txn s = told-commit h txn (first_of_each-among (filter_map commit_in h) txn s)
