@@ -31,6 +31,7 @@ pub mod CorrectNotes
 pub mod Orders
 pub mod CorrectOrder
 pub mod CorrectOf
+pub mod Runs
 pub mod EffectOf
 pub mod ServesOf
 pub mod ChangeOf
@@ -54,5 +55,4 @@ pub mod BegunFirst
 pub mod AgreesOf
 pub mod OrderOf
 pub mod KeepsTime
-pub mod HistoryAt
 pub mod HistoryLaws
