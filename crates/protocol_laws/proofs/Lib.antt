@@ -56,3 +56,14 @@ pub mod AgreesOf
 pub mod OrderOf
 pub mod KeepsTime
 pub mod HistoryLaws
+pub mod LimitedRuns
+pub mod NamesOnce
+pub mod PayloadReads
+pub mod LegalOrder
+pub mod CopyAfter
+pub mod BeforeBegin
+pub mod WritersRise
+pub mod RangesOnce
+pub mod CopyTells
+pub mod CopyFits
+pub mod OneCopyOf

@@ -2,3 +2,4 @@ pub mod Effect
 pub mod Change
 pub mod Turn
 pub mod Runs
+pub mod Limits

@@ -3,4 +3,5 @@
 
 pub mod histories;
 pub mod invariant;
+pub mod limits;
 pub mod steps;
