@@ -19,15 +19,17 @@ use Rattle.protocol_laws.specs.Rising.{VersionsRise}
 use Rattle.protocol_laws.specs.Runs.{AreEvents, EventStands, HandInPayloads}
 use Rattle.protocol_laws.proofs.BegunFirst.{BegunFirst, begun_first}
 use Rattle.protocol_laws.proofs.CopyTells.{TellsWritten}
-use Rattle.protocol_laws.proofs.HistoryAt.{formed_event}
 use Rattle.protocol_laws.proofs.HistoryKept.{ArePayloads, payload-begun}
 use Rattle.protocol_laws.proofs.HistoryLaws.{of_run, run_is_legal}
 use Rattle.protocol_laws.proofs.LegalOrder.{payloads-append, payloads-first}
 use Rattle.protocol_laws.proofs.OneCopyOf.{one_copy-of}
-use Rattle.protocol_laws.proofs.PayloadsKept.{payloads_kept}
+use Rattle.protocol_laws.proofs.PayloadsKept.{IsFormed, payloads_kept}
 use Rattle.protocol_laws.proofs.RunInduction.{invariant_at, run_induction}
 use Rattle.protocol_laws.proofs.Standing.{StandsIn-right}
 use Rattle.protocol_laws.proofs.WritersRise.{IsLegal, rise-in-order}
+
+formed_event : (event : Event) → EventStands event → IsFormed event
+formed_event event s node payload e = subst EventStands e s
 
 starts_empty : (setup : Deployment) → ArePayloads (first_world setup).history
 unfolding first_world

@@ -91,7 +91,6 @@ pub mod BegunFirst
 pub mod AgreesOf
 pub mod OrderOf
 pub mod KeepsTime
-pub mod HistoryAt
 pub mod HistoryLaws
 pub mod TransferGathering
 pub mod TransferEnters
