@@ -23,3 +23,5 @@ pub mod EntriesRows
 pub mod EntriesListed
 pub mod EntriesAppended
 pub mod EntriesAnswered
+pub mod EntriesKeyed
+pub mod EntriesCases
