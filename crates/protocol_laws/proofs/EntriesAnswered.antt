@@ -81,8 +81,8 @@ answers_by : (node : NodeRecord) (input : Input) (new : NodeRecord) (dest shard 
 answers_by node input new dest shard epoch x (Says m h) = absurd h
 answers_by node input new dest shard epoch x (Answers entry leads still there) = record { of_shard = refl; of_epoch = refl; leads = leads; still = still; there = there }
 
-record Again (node : NodeRecord) (view : Membership) (x : Preparation) : Type 0 where
-  txn : TxId
+pub record Again (node : NodeRecord) (view : Membership) (x : Preparation) : Type 0 where
+  pub txn : TxId
   case : Case
   part : Part
   opened : StandsIn (txn, case) node.coordinator.cases
@@ -154,7 +154,7 @@ module _ (tests : Tests) (setup : Deployment) (t : Moment) (event : Event) (h : 
   ]
 
   -- an entry that is asked to be accepted now is listed at the view
-  asked_listed : (a : Acting tests setup t event h) (view : Membership) (x : Preparation) → VotesNow a.node a.input view x ⊎ Again a.node view x → IsStored t view × Listed t view x
+  pub asked_listed : (a : Acting tests setup t event h) (view : Membership) (x : Preparation) → VotesNow a.node a.input view x ⊎ Again a.node view x → IsStored t view × Listed t view x
   asked_listed a view x (inr g) =
       let c : CaseHolds t a.node.coordinator.views g.txn g.case = turn.before.entries.cases a.node g.txn g.case a.is g.opened in
       ((view_stored setup t turn.before.configurations a.node g.part.shard view a.is g.sees).0, (voted_part t g.txn a.node.coordinator.views g.part view x (c.parts g.part g.has) g.sees g.entry).0)

@@ -1,5 +1,5 @@
 -- Cases stay well as a node coordinates: as they begin, as a shard votes and acknowledges, and as a view is replaced.
-use Rattle.std.proofs.Common.{◌≡◌, ℕ, Bool, true, false, cond, ◌==◌, List, [], ◌∷◌, ◌++◌, map, find, length, Option, Some, None, ◌⊎◌, inl, inr, sym, ◌∙◌, ap, subst, subst₂, refl, eqb-true, eq-eqb}
+use Rattle.std.proofs.Common.{◌≡◌, ℕ, Bool, true, false, cond, ◌==◌, List, [], ◌∷◌, ◌++◌, map, find, length, Option, Some, None, ◌⊎◌, inl, inr, sym, ◌∙◌, ap, ap₂, subst, subst₂, refl, eqb-true, eq-eqb}
 use Rattle.std.specs.Prelude.{IsTrue}
 use Rattle.std.specs.Map.{set_value, remove_entry}
 use Rattle.tcs_terms.specs.declared.ids.TxId.{TxId}
@@ -87,7 +87,7 @@ put-shards part [] = refl
 put-shards part (p ∷ ps) = go (p.shard == part.shard) refl (put-shards part ps)
   where
     go : (b : Bool) → (p.shard == part.shard) ≡ b → map (λ (q : Part). q.shard) (put_part part ps) ≡ map (λ (q : Part). q.shard) ps → (cond b part p).shard ∷ map (λ (q : Part). q.shard) (put_part part ps) ≡ p.shard ∷ map (λ (q : Part). q.shard) ps
-    go true e ih = let s : part.shard ≡ p.shard = sym (eqb-true p.shard part.shard e) in rw (s, ih) refl
+    go true e ih = ap₂ (λ (k : ℕ) (ks : List ℕ). k ∷ ks) (sym (eqb-true p.shard part.shard e)) ih
     go false e ih = ap (λ ks. p.shard ∷ ks) ih
 
 put-StandsIn : (part : Part) (parts : List Part) (p : Part) → StandsIn p (put_part part parts) → StandsIn p parts ⊎ (p ≡ part)
@@ -157,7 +157,7 @@ again-shards shard (p ∷ ps) = go (p.shard == shard) refl (again-shards shard p
   where
     go : (b : Bool) → (p.shard == shard) ≡ b → map (λ (q : Part). q.shard) (map (λ (q : Part). cond (q.shard == shard) (asked shard) q) ps) ≡ map (λ (q : Part). q.shard) ps
         → (cond b (asked shard) p).shard ∷ map (λ (q : Part). q.shard) (map (λ (q : Part). cond (q.shard == shard) (asked shard) q) ps) ≡ p.shard ∷ map (λ (q : Part). q.shard) ps
-    go true e ih = let s : shard ≡ p.shard = sym (eqb-true p.shard shard e) in rw (ih, s) refl
+    go true e ih = ap₂ (λ (k : ℕ) (ks : List ℕ). k ∷ ks) (sym (eqb-true p.shard shard e)) ih
     go false e ih = ap (λ ks. p.shard ∷ ks) ih
 
 -- a case whose shard is asked again, as its view is replaced

@@ -25,3 +25,5 @@ pub mod EntriesAppended
 pub mod EntriesAnswered
 pub mod EntriesKeyed
 pub mod EntriesCases
+pub mod EntriesCasesKept
+pub mod EntriesKept
