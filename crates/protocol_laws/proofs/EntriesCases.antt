@@ -95,6 +95,7 @@ put-StandsIn part parts p s = go (m.from.shard == part.shard) m.is
   where
     m : IsMapped (λ (q : Part). cond (q.shard == part.shard) part q) parts p
     m = map-StandsIn (λ (q : Part). cond (q.shard == part.shard) part q) parts p s
+
     go : (b : Bool) → p ≡ cond b part m.from → StandsIn p parts ⊎ (p ≡ part)
     go true e = inr e
     go false e = inl (subst (λ q. StandsIn q parts) (sym e) m.there)
@@ -123,6 +124,7 @@ acknowledged-holds t txn view seen (Some kept) acks from slot e p v held = subst
   where
     new : HeldAt t view.epoch from kept.slot txn
     new = subst (λ n. HeldAt t view.epoch from n txn) (sym (eqb-true kept.slot slot v)) held
+
     by : PartHolds t txn (Some view) (Some kept) acks → PartHolds t txn (Some view) (Some kept) (add_once acks from)
     by q = (q.0, q.1, λ name s. among name s (is_among acks from) refl)
       where
@@ -132,6 +134,7 @@ acknowledged-holds t txn view seen (Some kept) acks from slot e p v held = subst
           | inr (inl k) ↦ subst (λ n. HeldAt t view.epoch n kept.slot txn) (sym k) new
           | inr (inr k) ↦ absurd k
         ]
+
         among : (name : ℕ) → StandsIn name (add_once acks from) → (b : Bool) → is_among acks from ≡ b → HeldAt t view.epoch name kept.slot txn
         among name s true f = q.2 name (subst (λ b. StandsIn name (cond b acks (acks ++ from ∷ []))) f s)
         among name s false f = joined name (subst (λ b. StandsIn name (cond b acks (acks ++ from ∷ []))) f s)
@@ -147,6 +150,7 @@ view-other (v ∷ vs) config shard n = go (v.shard == config.shard) refl (view-o
         by : (b : Bool) → (a == shard) ≡ b → b ≡ false
         by true f = let k : (shard == config.shard) ≡ true = eq-eqb shard config.shard (sym (eqb-true a shard f) ∙ e) in absurd (cc (k, n))
         by false f = refl
+
     go : (b : Bool) → (v.shard == config.shard) ≡ b → view_of (replaced vs config) shard ≡ view_of vs shard → find (λ (w : Membership). w.shard == shard) (cond b config v ∷ replaced vs config) ≡ find (λ (w : Membership). w.shard == shard) (v ∷ vs)
     go true e ih = rw (apart config.shard refl, apart v.shard (eqb-true v.shard config.shard e)) ih
     go false e ih = ap (λ o. cond (v.shard == shard) (Some v) o) ih
@@ -165,7 +169,7 @@ again-holds : (t : Moment) (views : List Membership) (config : Membership) (txn 
 again-holds t views config txn case h = record {
   shards = again-shards config.shard case.parts ∙ h.shards;
   parts = λ p s. (let m : IsMapped (λ (q : Part). cond (q.shard == config.shard) (asked config.shard) q) case.parts p = map-StandsIn (λ (q : Part). cond (q.shard == config.shard) (asked config.shard) q) case.parts p s in
-    by p m.from m.there (m.from.shard == config.shard) refl m.is);
+      by p m.from m.there (m.from.shard == config.shard) refl m.is);
 }
   where
     by : (p q : Part) → StandsIn q case.parts → (b : Bool) → (q.shard == config.shard) ≡ b → p ≡ cond b (asked config.shard) q → PartHolds t txn (view_of (replaced views config) p.shard) p.entry p.acks
@@ -178,7 +182,7 @@ pub change_view-holds : (t : Moment) (c : Coordinator) (config : Membership) →
 unfolding change_view
 change_view-holds t c config h = record {
   each = λ k v s. (let m : IsMapped (λ (e : TxId × Case). (e.0, ask_again config.shard e.1)) c.cases (k, v) = map-StandsIn (λ (e : TxId × Case). (e.0, ask_again config.shard e.1)) c.cases (k, v) s in
-    subst (λ (e : TxId × Case). CaseHolds t (replaced c.views config) e.0 e.1) (sym m.is) (again-holds t c.views config m.from.0 m.from.1 (h.each m.from.0 m.from.1 m.there)));
+      subst (λ (e : TxId × Case). CaseHolds t (replaced c.views config) e.0 e.1) (sym m.is) (again-holds t c.views config m.from.0 m.from.1 (h.each m.from.0 m.from.1 m.there)));
   one = subst (λ ts. txns_differ ts ≡ true) (sym (keys-same c.cases)) h.one;
 }
   where

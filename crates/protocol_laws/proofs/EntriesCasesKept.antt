@@ -65,7 +65,7 @@ cases_by tests version t node input out (TakesOver txn row found unknown none ma
 cases_by tests version t node input out (Votes from shard epoch entry case part view opened at leads fits coordinator goes) r =
     let p : PartOpen t node.coordinator entry.txn case part view = part_open t node.coordinator entry.txn shard case part view r.cases opened in
     let listed : Listed t view (first_entry part.entry entry) = r.votes view (first_entry part.entry entry)
-          (record { from = from; shard = shard; answered = entry; case = case; part = part; delivers = ap (λ n. Deliver from (PrepareAck shard n entry)) (sym at); is_open = opened; is = refl }) in
+    (record { from = from; shard = shard; answered = entry; case = case; part = part; delivers = ap (λ n. Deliver from (PrepareAck shard n entry)) (sym at); is_open = opened; is = refl }) in
     goes_on-holds t node.coordinator entry.txn _ _ coordinator r.cases
     (with_part-holds t node.coordinator.views entry.txn case (voted part entry) p.case_holds (voted-holds t entry.txn view (view_of node.coordinator.views part.shard) part.entry part.acks entry p.sees p.part_holds listed refl)) goes
 cases_by tests version t node input out (Acknowledges from shard epoch slot txn case part view opened at follows votes coordinator goes) r =
@@ -83,7 +83,6 @@ cases_by tests version t node input out (Rests i answer notices n) r = r.cases
 cases_by tests version t node input out _ r = r.cases
 
 module _ (tests : Tests) (setup : Deployment) (t : Moment) (event : Event) (h : Happening) (turn : Turn tests setup t event h) (cu : ConfigurationsHold setup (goes_to t h.after)) (onward : Onward t (goes_to t h.after)) where
-
   abbrev u : Moment
   u = goes_to t h.after
 

@@ -57,6 +57,7 @@ remove-differ {X} test (e ∷ es) d = go (test e.0) (remove-differ test es (righ
   where
     apart : not (list_any (same_txn e.0) (keys (remove_entry test es))) ≡ true
     apart = ap not (none_removed test (same_txn e.0) es (not_false (list_any (same_txn e.0) (keys es)) (left_of (not (list_any (same_txn e.0) (keys es))) (txns_differ (keys es)) d)))
+
     go : (b : Bool) → txns_differ (keys (remove_entry test es)) ≡ true → txns_differ (keys (cond b es (e ∷ remove_entry test es))) ≡ true
     go true ih = right_of (not (list_any (same_txn e.0) (keys es))) (txns_differ (keys es)) d
     go false ih = both (not (list_any (same_txn e.0) (keys (remove_entry test es)))) (txns_differ (keys (remove_entry test es))) apart ih
