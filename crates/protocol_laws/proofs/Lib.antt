@@ -26,4 +26,4 @@ pub mod EntriesAnswered
 pub mod EntriesKeyed
 pub mod EntriesCases
 pub mod EntriesCasesKept
-pub mod EntriesKept
+pub mod EntriesListsKept
