@@ -163,12 +163,15 @@ reached_is_state setup node epoch n r =
     omega (arith, e)
 
 promises_start : (setup : Deployment) → IsDeployment setup → PromisesHold (start setup)
+unfolding start
 promises_start setup d = record {
   roles = λ node n. (node-IsFresh setup d node n).started.fits;
   members = λ node n h. (node-IsFresh setup d node n).started.member h;
   reached = λ node epoch n r. reached_is_state setup node epoch n r;
   held = λ node x n h. absurd (nothing_held setup d node.state node.name x h);
   rows = λ node n. subst (λ rows. AreRows rows) (sym (node-IsFresh setup d node n).rows) (record { slots_ascend = refl; slots = refl; txns_differ = refl });
+  rows_before = λ w node s. absurd s;
+  gathered = λ node g n e. absurd (cc (e, (node-IsFresh setup d node n).gathering));
 }
 
 answers_start : (setup : Deployment) → AnswersHold (start setup)

@@ -1,5 +1,5 @@
 -- The nodes and messages of a world after a node or the service acted: what was there, and what is new.
-use Rattle.std.proofs.Common.{◌≡◌, ℕ, Bool, true, false, cond, List, [], ◌∷◌, ◌++◌, ◌==◌, map, ◌⊎◌, inl, inr, sym, ◌∙◌, ap, subst, refl, eqb-true, eq-eqb}
+use Rattle.std.proofs.Common.{◌≡◌, ℕ, Bool, true, false, cond, List, [], ◌∷◌, ◌++◌, ◌==◌, ◌⊎◌, inl, inr, sym, ◌∙◌, ap, refl, eqb-true, eq-eqb}
 use Rattle.tcs_terms.specs.declared.messages.Outgoing.{Outgoing}
 use Rattle.protocol.specs.Records.{NodeRecord}
 use Rattle.protocol.specs.World.{Sent, put_node, sent_by}

@@ -93,10 +93,10 @@ pub never-on : (setup : Deployment) (t u : Moment) (epoch : ℕ) (node : NodeRec
 never-on setup t u epoch node c o p h n r = elim (reached-back t u epoch node.name o r) [
   | inl s ↦ n s
   | inr i ↦ (
-    let g : GrewTo u node = o.forth node p in
-    let same : g.new ≡ i.node = one_node setup u g.new i.node c g.is i.is (g.grows.name ∙ sym i.named) in
-    let e : node.state ≡ epoch = grows-from node g.new epoch g.grows h (ap (λ m. m.state) same ∙ i.in_epoch) in
-    n (record { node = node; was = is_in-now t epoch node.name node p refl e; some = r.some }))
+      let g : GrewTo u node = o.forth node p in
+      let same : g.new ≡ i.node = one_node setup u g.new i.node c g.is i.is (g.grows.name ∙ sym i.named) in
+      let e : node.state ≡ epoch = grows-from node g.new epoch g.grows h (ap (λ m. m.state) same ∙ i.in_epoch) in
+      n (record { node = node; was = is_in-now t epoch node.name node p refl e; some = r.some }))
 ]
 
 pub skipped-on : (setup : Deployment) (t u : Moment) (shard epoch : ℕ) → ConfigurationsHold setup u → Onward t u → Skipped t shard epoch → Skipped u shard epoch
@@ -127,8 +127,9 @@ no_more-on setup t u epoch node c o n h = let g : GrewTo u node = o.forth node n
     still : (g : GrewTo u node) → (epoch < node.state) ⊎ ((epoch < node.promised) × (Reached t epoch node.name → ⊥)) → HoldsNoMore u epoch g.new
     still g (inl l) = inl (let r : node.state ≤ g.new.state = grows-state node g.new g.grows in omega (arith, l, r))
     still g (inr p) = inr (
-        let r : node.promised ≤ g.new.promised = g.grows.promised in let l : epoch < node.promised = p.0 in omega (arith, l, r),
-        λ r. never-on setup t u epoch node c o n p.0 p.1 (subst (λ m. Reached u epoch m) g.grows.name r))
+      let r : node.promised ≤ g.new.promised = g.grows.promised in let l : epoch < node.promised = p.0 in omega (arith, l, r),
+      λ r. never-on setup t u epoch node c o n p.0 p.1 (subst (λ m. Reached u epoch m) g.grows.name r),
+    )
 
 -- what such a node held is what it will have held
 pub no_more-held : (setup : Deployment) (t u : Moment) (epoch : ℕ) (node : NodeRecord) (x : Preparation) → ConfigurationsHold setup u → Onward t u → IsNode t node → HoldsNoMore t epoch node
@@ -136,9 +137,9 @@ pub no_more-held : (setup : Deployment) (t u : Moment) (epoch : ℕ) (node : Nod
 no_more-held setup t u epoch node x c o n h k = elim (held-back t u epoch node.name x o k) [
   | inl s ↦ s
   | inr i ↦ absurd (
-    let g : GrewTo u node = o.forth node n in
-    let same : g.new ≡ i.node = one_node setup u g.new i.node c g.is i.is (g.grows.name ∙ sym i.named) in
-    never g (ap (λ m. m.state) same ∙ i.in_epoch) h)
+      let g : GrewTo u node = o.forth node n in
+      let same : g.new ≡ i.node = one_node setup u g.new i.node c g.is i.is (g.grows.name ∙ sym i.named) in
+      never g (ap (λ m. m.state) same ∙ i.in_epoch) h)
 ]
   where
     never : (g : GrewTo u node) → g.new.state ≡ epoch → (epoch < node.state) ⊎ ((epoch < node.promised) × (Reached t epoch node.name → ⊥)) → ⊥

@@ -1,5 +1,5 @@
 -- Lemmas on lists whose elements are numbered in order.
-use Rattle.std.proofs.Common.{◌≡◌, ℕ, zero, suc, ◌+◌, ◌≤◌, List, [], ◌∷◌, map, inl, inr, sym, ◌∙◌, ap, refl, arith}
+use Rattle.std.proofs.Common.{◌≡◌, ℕ, zero, suc, ◌+◌, ◌-◌, ◌≤◌, List, [], ◌∷◌, map, slice_index, inl, inr, sym, ◌∙◌, ap, arith}
 use Rattle.std.specs.List.{range_with_len}
 use Rattle.protocol.specs.Invariant.Time.{StandsIn}
 
@@ -42,3 +42,17 @@ numbered-one f (y ∷ ys) from count a b h (inr p) (inl q) e =
 numbered-one f (y ∷ ys) from count a b h (inr p) (inr q) e =
     let k : IsSplit f y ys from = split f y ys from count h in
     numbered-one f ys (from + 1) k.left a b k.tail p q e
+
+-- what each has stands in a list at the place of its number
+pub numbered-index : {X : Type 0} (f g : X → ℕ) (xs : List X) (from count : ℕ) (x : X) → AreNumbered f xs from count → StandsIn x xs → slice_index (map g xs) (f x - from) ≡ g x
+numbered-index f g [] from count x h s = absurd s
+numbered-index f g (y ∷ ys) from count x h (inl e) =
+    let k : IsSplit f y ys from = split f y ys from count h in
+    let m : f x ≡ from = ap f e ∙ k.head in
+    let z : f x - from ≡ 0 = omega (arith, m) in
+    ap (λ i. slice_index (g y ∷ map g ys) i) z ∙ ap g (sym e)
+numbered-index f g (y ∷ ys) from count x h (inr r) =
+    let k : IsSplit f y ys from = split f y ys from count h in
+    let l : from + 1 ≤ f x = numbered-above f ys (from + 1) k.left x k.tail r in
+    let z : f x - from ≡ suc (f x - (from + 1)) = omega (arith, l) in
+    ap (λ i. slice_index (g y ∷ map g ys) i) z ∙ numbered-index f g ys (from + 1) k.left x k.tail r

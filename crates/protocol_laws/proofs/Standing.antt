@@ -1,5 +1,7 @@
 -- Lemmas on what stands in joined, mapped and filtered lists.
-use Rattle.std.proofs.Common.{◌≡◌, Bool, true, false, cond, List, [], ◌∷◌, ◌++◌, map, filter, find, Some, None, ◌⊎◌, inl, inr, ap, refl}
+use Rattle.std.proofs.Common.{◌≡◌, Bool, true, false, cond, List, [], ◌∷◌, ◌++◌, map, filter, find, Some, None, inl, inr, ap, refl}
+use Rattle.std.specs.List.{list_all}
+use Rattle.std.proofs.lemmas.Bool.{and_from}
 use Rattle.protocol.specs.Invariant.Time.{StandsIn}
 
 -- what stands in a list stands in it joined with another one
@@ -58,3 +60,8 @@ find-none {X = X} p (z ∷ zs) x h s = go (p z) refl h s (find-none p zs x)
     go true e k q ih = absurd (cc k)
     go false e k (inl q) ih = cc (ap p q, e)
     go false e k (inr q) ih = ih k q
+
+-- a test that each element passes, all pass
+pub all-from : {X : Type 0} (p : X → Bool) (xs : List X) → ((x : X) → StandsIn x xs → p x ≡ true) → list_all p xs ≡ true
+all-from p [] h = refl
+all-from p (z ∷ zs) h = and_from (p z) (list_all p zs) (h z (inl refl)) (all-from p zs (λ x s. h x (inr s)))

@@ -1,3 +1,5 @@
 pub mod Effect
 pub mod Change
 pub mod Turn
+pub mod Runs
+pub mod Limits

@@ -1,4 +1,7 @@
 //! What holds of every run of the protocol.
 #![tactic(auto)]
 
+pub mod histories;
+pub mod invariant;
+pub mod limits;
 pub mod steps;

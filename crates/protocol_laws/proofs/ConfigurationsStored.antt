@@ -1,0 +1,99 @@
+-- What the configuration service stores and tells in one event.
+use Rattle.std.proofs.Common.{◌≡◌, ℕ, zero, suc, ◌+◌, Bool, true, false, cond, List, [], ◌∷◌, ◌++◌, map, filter, Option, Some, None, ◌⊎◌, inl, inr, sym, ◌∙◌, subst, ap, refl, arith, ◌==◌, eqb-true}
+use Rattle.std.proofs.lemmas.List.{map-append, append-nil}
+use Rattle.std.proofs.lemmas.List.Elements.{filter-append}
+use Rattle.std.specs.List.{range_with_len, last_or}
+use Rattle.tcs_terms.specs.declared.messages.Message.{Message}
+use Rattle.tcs_terms.specs.declared.messages.Message.TheVariants.{ConfigChange, Cas, Stored}
+use Rattle.tcs_terms.specs.declared.messages.Outgoing.{Outgoing}
+use Rattle.tcs_terms.specs.Places.{Membership}
+use Rattle.protocol.specs.Outcomes.{Out, to}
+use Rattle.protocol.specs.Service.{tell_nodes}
+use Rattle.protocol.specs.Views.{epoch_of}
+use Rattle.protocol.specs.Invariant.Configurations.{told_config}
+use Rattle.protocol.specs.Invariant.Time.{StandsIn}
+use Rattle.protocol.proofs.Lists.{StandsIn-append}
+use Rattle.protocol_laws.specs.Change.{Serves}
+use Rattle.protocol_laws.specs.Change.Serves.{HoldsBack, Tells, Stores}
+use Rattle.protocol_laws.proofs.ConfigurationsSends.{is_plain, notices-plain}
+use Rattle.protocol_laws.proofs.Standing.{StandsIn-left, StandsIn-right}
+
+-- the epochs of one shard's configurations are 1 to the last one
+abbrev pub EpochsFit : List Membership → Type 0
+EpochsFit cs = map (λ c. c.epoch) cs ≡ range_with_len 1 (epoch_of (last_or None cs))
+
+-- what the service says: something plain, or a configuration that is stored now
+pub data ServiceSays (kept : List Membership) : Message → Type 0 where
+  SaysPlainly : (m : Message) → is_plain m ≡ true → ServiceSays kept m
+  TellsStored : (m : Message) (c : Membership) → StandsIn c kept → told_config m ≡ Some c → (((d : Membership) → m ≡ Cas d → ⊥)) → ServiceSays kept m
+
+one-told : (kept : List Membership) (o : Outgoing) → ServiceSays kept o.message → (p : Outgoing) → StandsIn p (o ∷ []) → ServiceSays kept p.message
+one-told kept o h p (inl e) = subst (λ q. ServiceSays kept q.message) (sym e) h
+one-told kept o h p (inr s) = absurd s
+
+nodes-told : (kept : List Membership) (c : Membership) → StandsIn c kept → (names : List ℕ) (o : Outgoing) → StandsIn o (map (λ node. to node (ConfigChange c)) names) → ServiceSays kept o.message
+nodes-told kept c k [] o s = absurd s
+nodes-told kept c k (n ∷ ns) o (inl e) = subst (λ q. ServiceSays kept q.message) (sym e) (TellsStored (ConfigChange c) c k refl (λ d e. cc e))
+nodes-told kept c k (n ∷ ns) o (inr s) = nodes-told kept c k ns o s
+
+tell_nodes-told : (kept : List Membership) (c : Membership) → StandsIn c kept → (nodes : ℕ) (o : Outgoing) → StandsIn o (tell_nodes nodes c) → ServiceSays kept o.message
+unfolding tell_nodes
+tell_nodes-told kept c k nodes o s = nodes-told kept c k (range_with_len 1 nodes) o s
+
+pub service_says : (nodes : ℕ) (configs : List Membership) (from : ℕ) (message : Message) (out : Out (List Membership)) → Serves nodes configs from message out
+    → (o : Outgoing) → StandsIn o out.sends → ServiceSays out.kept o.message
+service_says nodes configs from message out (HoldsBack m answer notices n) o s = SaysPlainly o.message (notices-plain notices n o s)
+service_says nodes configs from message out (Tells m c k) o s = one-told configs (to from (Stored c)) (TellsStored (Stored c) c k refl (λ d e. cc e)) o s
+service_says nodes configs from message out (Stores c last n l e) o (inl q) =
+    subst (λ p. ServiceSays (configs ++ c ∷ []) p.message) (sym q) (TellsStored (Stored c) c (StandsIn-right configs (c ∷ []) c (inl refl)) refl (λ d e. cc e))
+service_says nodes configs from message out (Stores c last n l e) o (inr s) = tell_nodes-told (configs ++ c ∷ []) c (StandsIn-right configs (c ∷ []) c (inl refl)) nodes o s
+
+-- what is stored stays
+pub service_keeps : (nodes : ℕ) (configs : List Membership) (from : ℕ) (message : Message) (out : Out (List Membership)) → Serves nodes configs from message out
+    → (c : Membership) → StandsIn c configs → StandsIn c out.kept
+service_keeps nodes configs from message out (HoldsBack m answer notices n) c s = s
+service_keeps nodes configs from message out (Tells m d k) c s = s
+service_keeps nodes configs from message out (Stores d last n l e) c s = StandsIn-left configs (d ∷ []) c s
+
+-- what is stored afterwards was stored, or was proposed
+pub service_stored : (nodes : ℕ) (configs : List Membership) (from : ℕ) (message : Message) (out : Out (List Membership)) → Serves nodes configs from message out
+    → (c : Membership) → StandsIn c out.kept → StandsIn c configs ⊎ (message ≡ Cas c)
+service_stored nodes configs from message out (HoldsBack m answer notices n) c s = inl s
+service_stored nodes configs from message out (Tells m d k) c s = inl s
+service_stored nodes configs from message out (Stores d last n l e) c s = elim (StandsIn-append configs (d ∷ []) c s) [
+  | inl q ↦ inl q
+  | inr (inl q) ↦ inr (ap (λ m. Cas m) (sym q))
+  | inr (inr q) ↦ absurd q
+]
+
+last_or-snoc : {X : Type 0} (o : Option X) (xs : List X) (x : X) → last_or o (xs ++ x ∷ []) ≡ Some x
+last_or-snoc o [] x = refl
+last_or-snoc o (y ∷ ys) x = last_or-snoc (Some y) ys x
+
+range-snoc : (from n : ℕ) → range_with_len from (suc n) ≡ range_with_len from n ++ (from + n) ∷ []
+range-snoc from zero = let e : from ≡ from + 0 = omega arith in ap (λ m. m ∷ []) e
+range-snoc from (suc n) =
+    let e : from + 1 + n ≡ from + suc n = omega arith in
+    ap (λ ms. from ∷ ms) (range-snoc (from + 1) n ∙ ap (λ m. range_with_len (from + 1) n ++ m ∷ []) e)
+
+epochs-snoc : (cs : List Membership) (c : Membership) → EpochsFit cs → c.epoch ≡ epoch_of (last_or None cs) + 1 → EpochsFit (cs ++ c ∷ [])
+epochs-snoc cs c f e =
+    let k : ℕ = epoch_of (last_or None cs) in
+    let a : c.epoch ≡ 1 + k = omega (arith, e) in
+    let b : suc k ≡ c.epoch = omega (arith, e) in
+    let last : c.epoch ≡ epoch_of (last_or None (cs ++ c ∷ [])) = ap epoch_of (sym (last_or-snoc None cs c)) in
+    map-append (λ d. d.epoch) cs (c ∷ []) ∙ ap (λ ms. ms ++ c.epoch ∷ []) f ∙ ap (λ m. range_with_len 1 k ++ m ∷ []) a ∙ sym (range-snoc 1 k) ∙ ap (λ m. range_with_len 1 m) (b ∙ last)
+
+-- the epochs of each shard stay 1 to its last one
+pub service_epochs : (nodes : ℕ) (configs : List Membership) (from : ℕ) (message : Message) (out : Out (List Membership)) → Serves nodes configs from message out
+    → (shard : ℕ) → EpochsFit (filter (λ c. c.shard == shard) configs) → EpochsFit (filter (λ c. c.shard == shard) out.kept)
+service_epochs nodes configs from message out (HoldsBack m answer notices n) shard f = f
+service_epochs nodes configs from message out (Tells m d k) shard f = f
+service_epochs nodes configs from message out (Stores c last n l e) shard f =
+    subst EpochsFit (sym (filter-append (λ d. d.shard == shard) configs (c ∷ []))) (go (c.shard == shard) refl)
+  where
+    go : (b : Bool) → (c.shard == shard) ≡ b → EpochsFit (filter (λ d. d.shard == shard) configs ++ cond b (c ∷ []) [])
+    go true q =
+        let m : last_or None (filter (λ d. d.shard == shard) configs) ≡ Some last = subst (λ k. last_or None (filter (λ d. d.shard == k) configs) ≡ Some last) (eqb-true c.shard shard q) l in
+        epochs-snoc (filter (λ d. d.shard == shard) configs) c f (e ∙ ap (λ o. epoch_of o + 1) (sym m))
+    go false q = subst EpochsFit (sym (append-nil (filter (λ d. d.shard == shard) configs))) f

@@ -1,0 +1,91 @@
+-- Agreement and the causes of aborts, as tests of a history.
+use Rattle.std.proofs.Common.{◌≡◌, ℕ, Bool, true, false, not, ◌&&◌, ◌||◌, ◌==◌, List, [], ◌∷◌, ◌++◌, Option, Some, None, is_some, inl, inr, ◌⊎◌, sym, ◌∙◌, ap, subst, refl, eq-eqb}
+use Rattle.std.specs.List.{list_all, list_any}
+use Rattle.std.proofs.lemmas.Bool.{and_from, false_from_ne_true, not_from_false}
+use Rattle.tcs_terms.specs.declared.ids.TxId.{TxId}
+use Rattle.tcs_terms.specs.declared.inputs.Note.{Note}
+use Rattle.tcs_terms.specs.declared.inputs.Note.TheVariants.{Begin, Take, ReadValue, Decide}
+use Rattle.tcs_terms.specs.declared.votes.Cause.{Cause}
+use Rattle.tcs_terms.specs.declared.votes.Cause.TheVariants.{Clash, Lost}
+use Rattle.tcs_terms.specs.declared.votes.Decision.{Decision}
+use Rattle.tcs_terms.specs.declared.votes.Decision.TheVariants.{Commit, Abort}
+use Rattle.tcs_terms.specs.Logs.{same_txn}
+use Rattle.tcs_terms.specs.Payloads.{Accesses}
+use Rattle.tcs_laws.specs.Certification.{Tests, prepared_passes_in}
+use Rattle.protocol.specs.CorrectHistory.{same_cause, same_decision, agrees_with, agrees_after, agrees, clash_in, has_cause, clash_after_by, clash_after, names_clashes, was_taken, lost_after_by, lost_after, names_losses}
+use Rattle.protocol.specs.History.{payload_in, has_begun, takes}
+use Rattle.protocol.specs.Invariant.Time.{StandsIn}
+use Rattle.protocol_laws.proofs.CausesNow.{NamesClash}
+use Rattle.protocol_laws.proofs.HistoryKept.{DecisionStands, HistoryHolds}
+use Rattle.protocol_laws.proofs.Standing.{all-from}
+use Rattle.protocol_laws.proofs.WithPast.{all-with_past, any-from, same_txn-eq, same_txn-self}
+
+same_cause-self : (c : Cause) → same_cause c c ≡ true
+same_cause-self (Clash txn) = same_txn-self txn
+same_cause-self Lost = refl
+
+same_decision-self : (d : Decision) → same_decision d d ≡ true
+same_decision-self Commit = refl
+same_decision-self (Abort shard cause) = and_from (shard == shard) (same_cause cause cause) (eq-eqb shard shard refl) (same_cause-self cause)
+
+-- each decision agrees with those before it
+agrees_with-each : (tests : Tests) (n : ℕ) (before : List Note) (txn : TxId) (decision : Decision) → DecisionStands tests n before txn decision → (m : Note) → StandsIn m before → agrees_with txn decision m ≡ true
+agrees_with-each tests n before txn decision d (Begin other payload) s = refl
+agrees_with-each tests n before txn decision d (Take other) s = refl
+agrees_with-each tests n before txn decision d (ReadValue name version value) s = refl
+agrees_with-each tests n before txn decision d (Decide other taken) s = go (same_txn other txn) refl
+  where
+    go : (b : Bool) → same_txn other txn ≡ b → (not b || same_decision taken decision) ≡ true
+    go false e = refl
+    go true e =
+        let txns : other ≡ txn = same_txn-eq other txn e in
+        let same : taken ≡ decision = d.agrees taken (subst (λ x. StandsIn (Decide x taken) before) txns s) in
+        subst (λ x. same_decision x decision ≡ true) (sym same) (same_decision-self decision)
+
+pub history-agrees : (tests : Tests) (n : ℕ) (h : List Note) → HistoryHolds tests n h → agrees h ≡ true
+history-agrees tests n h holds = all-with_past (λ e. agrees_after e.0 e.1) h each
+  where
+    each : (before : List Note) (x : Note) (after : List Note) → h ≡ before ++ (x ∷ after) → agrees_after before x ≡ true
+    each before (Begin txn payload) after e = refl
+    each before (Take txn) after e = refl
+    each before (ReadValue name version value) after e = refl
+    each before (Decide txn decision) after e =
+        let d : DecisionStands tests n before txn decision = holds.each before after txn decision e in
+        and_from (has_begun before txn) (list_all (agrees_with txn decision) before) (ap (λ o. is_some o) d.begun)
+        (all-from (agrees_with txn decision) before (agrees_with-each tests n before txn decision d))
+
+-- what is lost was taken over
+lost_by : (tests : Tests) (n : ℕ) (before : List Note) (txn : TxId) (decision : Decision) → DecisionStands tests n before txn decision → lost_after_by before txn decision ≡ true
+lost_by tests n before txn Commit d = refl
+lost_by tests n before txn (Abort shard (Clash other)) d = refl
+lost_by tests n before txn (Abort shard Lost) d = any-from (takes txn) before (Take txn) (d.lost shard refl) (same_txn-self txn)
+
+pub history-loses : (tests : Tests) (n : ℕ) (h : List Note) → HistoryHolds tests n h → names_losses h ≡ true
+history-loses tests n h holds = all-with_past (λ e. lost_after e.0 e.1) h each
+  where
+    each : (before : List Note) (x : Note) (after : List Note) → h ≡ before ++ (x ∷ after) → lost_after before x ≡ true
+    each before (Begin txn payload) after e = refl
+    each before (Take txn) after e = refl
+    each before (ReadValue name version value) after e = refl
+    each before (Decide txn decision) after e = lost_by tests n before txn decision (holds.each before after txn decision e)
+
+-- a clash is named rightly
+clash_by : (tests : Tests) (n : ℕ) (before : List Note) (txn : TxId) (decision : Decision) → DecisionStands tests n before txn decision → clash_after_by tests n before txn decision ≡ true
+clash_by tests n before txn Commit d = refl
+clash_by tests n before txn (Abort shard Lost) d = refl
+clash_by tests n before txn (Abort shard (Clash other)) d =
+    let c : NamesClash tests n before txn d.payload shard other = d.clash shard other refl in
+    and_from (not (same_txn other txn)) (clash_in tests n shard (payload_in before other) (payload_in before txn))
+    (not_from_false (same_txn other txn) (false_from_ne_true (same_txn other txn) (λ e. c.differs (same_txn-eq other txn e))))
+    (subst (λ o. clash_in tests n shard o (payload_in before txn) ≡ true) (sym c.begun)
+    (subst (λ o. clash_in tests n shard (Some c.old) o ≡ true) (sym d.begun)
+    (not_from_false (prepared_passes_in tests n shard (c.old ∷ []) d.payload) c.fails)))
+
+pub history-clashes : (tests : Tests) (n : ℕ) (h : List Note) → HistoryHolds tests n h → names_clashes tests n h ≡ true
+history-clashes tests n h holds = all-with_past (λ e. clash_after tests n e.0 e.1) h each
+  where
+    each : (before : List Note) (x : Note) (after : List Note) → h ≡ before ++ (x ∷ after) → clash_after tests n before x ≡ true
+    each before (Begin txn payload) after e = refl
+    each before (Take txn) after e = refl
+    each before (ReadValue name version value) after e = refl
+    each before (Decide txn decision) after e = clash_by tests n before txn decision (holds.each before after txn decision e)

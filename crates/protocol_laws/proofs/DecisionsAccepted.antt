@@ -1,0 +1,140 @@
+-- A part of a case that is complete has an entry that every member of its view held.
+use Rattle.std.proofs.Common.{◌≡◌, ℕ, Bool, true, false, cond, not, List, [], ◌∷◌, ◌++◌, map, Option, Some, None, ◌==◌, inl, inr, sym, ◌∙◌, ap, ap₂, subst, refl, eqb-true}
+use Rattle.tcs_terms.specs.declared.ids.TxId.{TxId}
+use Rattle.tcs_terms.specs.declared.inputs.Input.{Input}
+use Rattle.tcs_terms.specs.declared.inputs.Input.TheVariants as inputs
+use Rattle.tcs_terms.specs.declared.messages.Message.TheVariants.{PrepareAck, AcceptAck}
+use Rattle.tcs_terms.specs.Places.{Membership, is_among}
+use Rattle.tcs_terms.specs.Preparations.{Preparation}
+use Rattle.tcs_terms.specs.Setups.{Deployment}
+use Rattle.tcs_laws.specs.Certification.{Tests}
+use Rattle.protocol.specs.Cases.{put_part, all_acknowledge, is_complete_by}
+use Rattle.protocol.specs.Coordination.{case_of, with_part, first_entry, voted, voted_at, acknowledged, add_once}
+use Rattle.protocol.specs.Outcomes.{Out}
+use Rattle.protocol.specs.Records.{Part, Case, NodeRecord}
+use Rattle.protocol.specs.Views.{view_of, followers}
+use Rattle.protocol.specs.Invariant.{InvariantHolds}
+use Rattle.protocol.specs.Invariant.Entries.{ListedAt, HeldAt, PartHolds, CaseHolds}
+use Rattle.protocol.specs.Invariant.Logs.{Held, Listed, Accepted}
+use Rattle.protocol.specs.Invariant.Time.{Moment, StandsIn, IsStored}
+use Rattle.protocol.proofs.Lists.{all-StandsIn, among-StandsIn, StandsIn-append}
+use Rattle.protocol_laws.specs.Effect.{OpenPart}
+use Rattle.protocol_laws.proofs.TransactionsActing.{Acting}
+use Rattle.protocol_laws.proofs.TransactionsCases.{put_part_came, part_is, IsPartOf}
+use Rattle.protocol_laws.proofs.Standing.{StandsIn-filter}
+use Rattle.protocol_laws.proofs.TransactionsLists.{lookup-StandsIn}
+use Rattle.protocol_laws.proofs.Stored.{one_config}
+use Rattle.protocol_laws.proofs.TransactionsPlaces.{view_is, IsView}
+
+-- whoever acknowledged a listed entry held that entry; where all followers did, it is accepted
+pub all_held : (tests : Tests) (setup : Deployment) (t : Moment) (txn : TxId) (v : Membership) (entry : Preparation) (acks : List ℕ) → InvariantHolds tests setup t → IsStored t v → Listed t v entry
+    → ((name : ℕ) → StandsIn name acks → HeldAt t v.epoch name entry.slot txn) → all_acknowledge (Some v) acks ≡ true → Accepted t v entry
+all_held tests setup t txn v entry acks i stored listed acknowledges all = record { stored = stored; held = λ name member. held name (name == v.leader) member refl }
+  where
+    followed : (name : ℕ) → StandsIn name v.members → HeldAt t v.epoch name entry.slot txn → Held t v.epoch name entry
+    followed name member a =
+        let same : a.entry ≡ entry = i.entries.slots v a.entry entry (i.transfer.at_most v name a.entry stored member a.held) listed a.at_slot in
+        subst (λ x. Held t v.epoch name x) same a.held
+
+    held : (name : ℕ) (b : Bool) → StandsIn name v.members → (name == v.leader) ≡ b → Held t v.epoch name entry
+    held name true member e = subst (λ x. Held t v.epoch x entry) (sym (eqb-true name v.leader e)) listed.held
+    held name false member e =
+        let follows : StandsIn name (followers v) = StandsIn-filter (λ m. not (m == v.leader)) v.members name member (ap not e) in
+        let among : is_among acks name ≡ true = all-StandsIn (λ node. is_among acks node) (followers v) name all follows in
+        followed name member (acknowledges name (among-StandsIn acks name among))
+
+-- a part with its view and its accepted entry
+pub record IsAcceptedPart (t : Moment) (views : List Membership) (txn : TxId) (p : Part) : Type 0 where
+  pub entry : Preparation
+  pub view : Membership
+  pub voted : p.entry ≡ Some entry
+  pub sees : view_of views p.shard ≡ Some view
+  pub accepted : Accepted t view entry
+  pub of_txn : entry.txn ≡ txn
+
+pub complete_part : (tests : Tests) (setup : Deployment) (t : Moment) (views : List Membership) (txn : TxId) (p : Part) → InvariantHolds tests setup t → ((v : Membership) → view_of views p.shard ≡ Some v → IsStored t v)
+    → PartHolds t txn (view_of views p.shard) p.entry p.acks → is_complete_by p.entry p.acks (view_of views p.shard) ≡ true → IsAcceptedPart t views txn p
+complete_part tests setup t views txn p i stored = go (view_of views p.shard) p.entry refl refl
+  where
+    go : (view : Option Membership) (entry : Option Preparation) → view_of views p.shard ≡ view → p.entry ≡ entry → PartHolds t txn view entry p.acks → is_complete_by entry p.acks view ≡ true → IsAcceptedPart t views txn p
+    go None None a b k c = absurd (cc c)
+    go (Some v) None a b k c = absurd (cc c)
+    go None (Some entry) a b k c = absurd k
+    go (Some v) (Some entry) a b k c = record {
+      entry = entry;
+      view = v;
+      voted = b;
+      sees = a;
+      accepted = all_held tests setup t txn v entry p.acks i (stored v a) k.0 k.2 c;
+      of_txn = k.1;
+    }
+
+-- the parts of a case hold
+abbrev pub PartsHold : Moment → List Membership → TxId → Case → Type 0
+PartsHold t views txn case = (p : Part) → StandsIn p case.parts → PartHolds t txn (view_of views p.shard) p.entry p.acks
+
+-- a case with one part changed, which holds too
+with_part_holds : (t : Moment) (views : List Membership) (txn : TxId) (case : Case) (part : Part) → PartsHold t views txn case → PartHolds t txn (view_of views part.shard) part.entry part.acks → PartsHold t views txn (with_part case part)
+with_part_holds t views txn case part k h p s = elim (put_part_came part case.parts p s) [ inl r ↦ k p r | inr e ↦ subst (λ (x : Part). PartHolds t txn (view_of views x.shard) x.entry x.acks) (sym e) h ]
+
+pub put_part_shards : (part : Part) (parts : List Part) → map (λ p. p.shard) (put_part part parts) ≡ map (λ p. p.shard) parts
+put_part_shards part [] = refl
+put_part_shards part (p ∷ ps) = ap₂ (λ x xs. x ∷ xs) (go (p.shard == part.shard) refl) (put_part_shards part ps)
+  where
+    go : (b : Bool) → (p.shard == part.shard) ≡ b → (cond b part p).shard ≡ p.shard
+    go true e = sym (eqb-true p.shard part.shard e)
+    go false e = refl
+
+-- the case of a node, as it was
+old_case : (tests : Tests) (setup : Deployment) (t u : Moment) (node : NodeRecord) (input : Input) (out : Out NodeRecord) (txn : TxId) (case : Case) → Acting tests setup t u node input out → case_of node.coordinator txn ≡ Some case
+    → CaseHolds t node.coordinator.views txn case
+old_case tests setup t u node input out txn case a e = a.before.entries.cases node txn case a.is (lookup-StandsIn txn node.coordinator.cases case e)
+
+-- a part that voted
+voted_part : (t : Moment) (view : Membership) (entry : Preparation) (kept : Option Preparation) (acks : List ℕ) → Listed t view entry → PartHolds t entry.txn (Some view) kept acks → PartHolds t entry.txn (Some view) (Some (first_entry kept entry)) acks
+voted_part t view entry None acks l k = (l, refl, λ name s. absurd (subst (λ xs. StandsIn name xs) k s))
+voted_part t view entry (Some x) acks l k = k
+
+pub votes_hold : (tests : Tests) (setup : Deployment) (t u : Moment) (node : NodeRecord) (input : Input) (out : Out NodeRecord) (from shard epoch : ℕ) (entry : Preparation) (case : Case) (part : Part) (view : Membership)
+    → Acting tests setup t u node input out → input ≡ inputs.Deliver from (PrepareAck shard epoch entry) → OpenPart node.coordinator entry.txn shard case part view → view.epoch ≡ epoch
+    → PartsHold t node.coordinator.views entry.txn (with_part case (voted part entry))
+votes_hold tests setup t u node input out from shard epoch entry case part view a e o at =
+    let is : IsPartOf case.parts shard part = part_is case.parts shard part o.has in
+    let c : CaseHolds t node.coordinator.views entry.txn case = old_case tests setup t u node input out entry.txn case a o.opened in
+    let l : ListedAt t shard epoch entry = a.before.entries.answered from node.name shard epoch entry (a.received from (PrepareAck shard epoch entry) e) in
+    let v : IsView t shard view = view_is setup t node shard view a.before.configurations a.is o.sees in
+    let same : l.config ≡ view = one_config setup t l.config view a.before.configurations l.stored v.stored (l.of_shard ∙ sym v.of_shard) (l.of_epoch ∙ sym at) in
+    let sees : view_of node.coordinator.views part.shard ≡ Some view = ap (λ s. view_of node.coordinator.views s) is.of_shard ∙ o.sees in
+    let old : PartHolds t entry.txn (Some view) part.entry part.acks = subst (λ x. PartHolds t entry.txn x part.entry part.acks) sees (c.parts part is.among) in
+    with_part_holds t node.coordinator.views entry.txn case (voted part entry) c.parts
+    (subst (λ x. PartHolds t entry.txn x (Some (first_entry part.entry entry)) part.acks) (sym sees) (voted_part t view entry part.entry part.acks (subst (λ x. Listed t x entry) same l.listed) old))
+
+-- a part that a follower acknowledged
+acknowledged_part : (t : Moment) (txn : TxId) (view : Membership) (from slot : ℕ) (kept : Option Preparation) (acks : List ℕ) → HeldAt t view.epoch from slot txn → voted_at kept slot ≡ true → PartHolds t txn (Some view) kept acks
+    → PartHolds t txn (Some view) kept (add_once acks from)
+acknowledged_part t txn view from slot None acks h e k = absurd (cc e)
+acknowledged_part t txn view from slot (Some x) acks h e k = (k.0, k.1, λ name s. go (is_among acks from) name s)
+  where
+    now : HeldAt t view.epoch from x.slot txn
+    now = subst (λ s. HeldAt t view.epoch from s txn) (sym (eqb-true x.slot slot e)) h
+
+    go : (b : Bool) (name : ℕ) → StandsIn name (cond b acks (acks ++ from ∷ [])) → HeldAt t view.epoch name x.slot txn
+    go true name s = k.2 name s
+    go false name s = elim (StandsIn-append acks (from ∷ []) name s) [ inl r ↦ k.2 name r | inr (inl q) ↦ subst (λ n. HeldAt t view.epoch n x.slot txn) (sym q) now | inr (inr r) ↦ absurd r ]
+
+pub acknowledges_hold : (tests : Tests) (setup : Deployment) (t u : Moment) (node : NodeRecord) (input : Input) (out : Out NodeRecord) (from shard epoch slot : ℕ) (txn : TxId) (case : Case) (part : Part) (view : Membership)
+    → Acting tests setup t u node input out → input ≡ inputs.Deliver from (AcceptAck shard epoch slot txn) → OpenPart node.coordinator txn shard case part view → view.epoch ≡ epoch → voted_at part.entry slot ≡ true
+    → PartsHold t node.coordinator.views txn (with_part case (acknowledged part from))
+acknowledges_hold tests setup t u node input out from shard epoch slot txn case part view a e o at voted =
+    let is : IsPartOf case.parts shard part = part_is case.parts shard part o.has in
+    let c : CaseHolds t node.coordinator.views txn case = old_case tests setup t u node input out txn case a o.opened in
+    let h : HeldAt t epoch from slot txn = a.before.entries.acknowledged from node.name shard epoch slot txn (a.received from (AcceptAck shard epoch slot txn) e) in
+    let sees : view_of node.coordinator.views part.shard ≡ Some view = ap (λ s. view_of node.coordinator.views s) is.of_shard ∙ o.sees in
+    let old : PartHolds t txn (Some view) part.entry part.acks = subst (λ x. PartHolds t txn x part.entry part.acks) sees (c.parts part is.among) in
+    with_part_holds t node.coordinator.views txn case (acknowledged part from) c.parts
+    (subst (λ x. PartHolds t txn x part.entry (add_once part.acks from)) (sym sees) (acknowledged_part t txn view from slot part.entry part.acks (subst (λ x. HeldAt t x from slot txn) (sym at) h) voted old))
+
+-- the parts of a case that goes on are of its shards still
+pub case_shards : (tests : Tests) (setup : Deployment) (t u : Moment) (node : NodeRecord) (input : Input) (out : Out NodeRecord) (txn : TxId) (case : Case) (part : Part) → Acting tests setup t u node input out → case_of node.coordinator txn ≡ Some case
+    → map (λ p. p.shard) (with_part case part).parts ≡ case.shards
+case_shards tests setup t u node input out txn case part a e = put_part_shards part case.parts ∙ (old_case tests setup t u node input out txn case a e).shards

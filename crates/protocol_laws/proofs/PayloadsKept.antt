@@ -1,0 +1,83 @@
+-- Whatever a client began is a payload, if it asked to certify payloads.
+use Rattle.std.proofs.Common.{◌≡◌, ℕ, List, [], ◌∷◌, ◌++◌, inl, inr, ◌⊎◌, sym, ap, refl}
+use Rattle.tcs_terms.specs.declared.ids.TxId.{TxId}
+use Rattle.tcs_terms.specs.declared.inputs.Event.{Event}
+use Rattle.tcs_terms.specs.declared.inputs.Event.TheVariants.{Call}
+use Rattle.tcs_terms.specs.declared.inputs.Input.{Input}
+use Rattle.tcs_terms.specs.declared.inputs.Input.TheVariants as inputs
+use Rattle.tcs_terms.specs.declared.inputs.Note.TheVariants.{Begin}
+use Rattle.tcs_terms.specs.declared.messages.Message.{Message}
+use Rattle.tcs_terms.specs.declared.messages.Outgoing.{Outgoing}
+use Rattle.tcs_terms.specs.Payloads.{Accesses, IsPayload}
+use Rattle.tcs_terms.specs.Places.{Membership}
+use Rattle.tcs_laws.specs.Certification.{Tests}
+use Rattle.protocol.specs.Invariant.Time.{StandsIn}
+use Rattle.protocol.specs.Outcomes.{Out}
+use Rattle.protocol.specs.Records.{Case, Coordinator, NodeRecord}
+use Rattle.protocol.specs.World.{World, Happening}
+use Rattle.protocol.proofs.Lists.{StandsIn-append}
+use Rattle.protocol_laws.specs.Change.{Change, Passes, Stops, Acts, AtService, Comes, ByCall, ByMessage, Serves, HoldsBack, Tells, Stores}
+use Rattle.protocol_laws.specs.Effect.{GoesOn, Waiting, Decides, Effect, Rests, Certifies, TakesOver, Nudges, Moves, Lowers, Reads, Asks, AnswersAgain, Appends, Votes, Acknowledges, Changes, Learns, Keeps, Accepts, Marks, Promises, Chooses, FindsLow, Leads, Follows, Gathers, FollowsPieces}
+use Rattle.protocol_laws.proofs.HistoryKept.{ArePayloads}
+
+-- an event in which a client asks to certify asks it of a payload
+abbrev pub IsFormed : Event → Type 0
+IsFormed event = (node : ℕ) (payload : Accesses) → event ≡ Call node (inputs.Certify payload) → IsPayload payload
+
+goes_on-begins : (c : Coordinator) (txn : TxId) (case : Case) (sends : List Outgoing) (out : Out Coordinator) (begun : TxId) (whole : Accesses) → GoesOn c txn case sends out → StandsIn (Begin begun whole) out.notes → ⊥
+goes_on-begins c txn case sends o begun whole (Waiting h) s = s
+goes_on-begins c txn case sends o begun whole (Decides h) s = elim s [ inl k ↦ absurd (cc k) | inr z ↦ absurd z ]
+
+-- what begins was asked to be certified
+effect-begins : (tests : Tests) (version : ℕ) (node : NodeRecord) (input : Input) (out : Out NodeRecord) (begun : TxId) (whole : Accesses) → Effect tests version node input out → StandsIn (Begin begun whole) out.notes → inputs.Certify whole ≡ input
+effect-begins tests version node i o begun whole (Rests input answer notices h) s = absurd s
+effect-begins tests version node i o begun whole (Certifies payload h case e) s = elim s [ inl k ↦ ap (λ x. inputs.Certify x) (cc k) | inr z ↦ absurd z ]
+effect-begins tests version node i o begun whole (TakesOver txn row a b c d case e) s = elim s [ inl k ↦ absurd (cc k) | inr z ↦ absurd z ]
+effect-begins tests version node i o begun whole Nudges s = absurd s
+effect-begins tests version node i o begun whole (Moves shard want) s = absurd s
+effect-begins tests version node i o begun whole (Lowers shard want epoch probed low a b c) s = absurd s
+effect-begins tests version node i o begun whole (Reads name a) s = elim s [ inl k ↦ absurd (cc k) | inr z ↦ absurd z ]
+effect-begins tests version node i o begun whole (Asks shard) s = absurd s
+effect-begins tests version node i o begun whole (AnswersAgain from epoch txn shards part row a b c d) s = absurd s
+effect-begins tests version node i o begun whole (Appends from epoch txn shards part a b c d g entry e) s = absurd s
+effect-begins tests version node i o begun whole (Votes from shard epoch entry case part view a b c d out g) s = absurd (goes_on-begins _ _ _ _ out begun whole g s)
+effect-begins tests version node i o begun whole (Acknowledges from shard epoch slot txn case part view a b c d out g) s = absurd (goes_on-begins _ _ _ _ out begun whole g s)
+effect-begins tests version node i o begun whole (Changes from config a) s = absurd s
+effect-begins tests version node i o begun whole (Learns from config coordinator sent stage asked a b) s = absurd s
+effect-begins tests version node i o begun whole (Keeps from txn decision a b) s = absurd s
+effect-begins tests version node i o begun whole (Accepts from epoch entry a b t) s = absurd s
+effect-begins tests version node i o begun whole (Marks from epoch slot txn commit a b) s = absurd s
+effect-begins tests version node i o begun whole (Promises from epoch a) s = absurd s
+effect-begins tests version node i o begun whole (Chooses from state shard want epoch probed low a b c) s = absurd s
+effect-begins tests version node i o begun whole (FindsLow from state shard want epoch probed low a b c) s = absurd s
+effect-begins tests version node i o begun whole (Leads from config a b c d) s = absurd s
+effect-begins tests version node i o begun whole (Follows from config rows a b) s = absurd s
+effect-begins tests version node i o begun whole (Gathers from config number pieces rows gathering a b c d e) s = absurd s
+effect-begins tests version node i o begun whole (FollowsPieces from config number pieces rows gathering a b c d e) s = absurd s
+
+serves-begins : (nodes : ℕ) (configs : List Membership) (from : ℕ) (message : Message) (out : Out (List Membership)) (begun : TxId) (whole : Accesses) → Serves nodes configs from message out → StandsIn (Begin begun whole) out.notes → ⊥
+serves-begins nodes configs from m o begun whole (HoldsBack message answer notices h) s = s
+serves-begins nodes configs from m o begun whole (Tells message c h) s = s
+serves-begins nodes configs from m o begun whole (Stores c last a b d) s = s
+
+came : (w : World) (name : ℕ) (event : Event) (input : Input) (whole : Accesses) → Comes w name event input → inputs.Certify whole ≡ input → event ≡ Call name (inputs.Certify whole)
+came w name e i whole (ByCall input) h = ap (λ x. Call name x) (sym h)
+came w name e i whole (ByMessage number from message sent is found s) h = absurd (cc h)
+
+pub payloads_kept : (tests : Tests) (version : ℕ) (w : World) (event : Event) (h : Happening) → Change tests version w event h → IsFormed event → ArePayloads w.history → ArePayloads h.after.history
+payloads_kept tests version w e h (Passes event result a) formed p = p
+payloads_kept tests version w e h (Stops name) formed p = p
+payloads_kept tests version w e h (Acts event name node input out comes found s named up effect) formed p = go
+  where
+    go : (txn : TxId) (whole : Accesses) → StandsIn (Begin txn whole) (w.history ++ out.notes) → IsPayload whole
+    go txn whole s = elim (StandsIn-append w.history out.notes (Begin txn whole) s) [
+      | inl old ↦ p txn whole old
+      | inr new ↦ formed name whole (came w name event input whole comes (effect-begins tests version node input out txn whole effect new))
+    ]
+payloads_kept tests version w e h (AtService number from message sent out is found s serves) formed p = go
+  where
+    go : (txn : TxId) (whole : Accesses) → StandsIn (Begin txn whole) (w.history ++ out.notes) → IsPayload whole
+    go txn whole s = elim (StandsIn-append w.history out.notes (Begin txn whole) s) [
+      | inl old ↦ p txn whole old
+      | inr new ↦ absurd (serves-begins _ _ _ _ out txn whole serves new)
+    ]

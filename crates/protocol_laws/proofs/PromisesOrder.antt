@@ -1,0 +1,167 @@
+-- Entries in order: slots ascend within their range, transactions are distinct; and which lists stay so.
+use Rattle.std.proofs.Common.{◌≡◌, ℕ, ◌<◌, Bool, true, false, cond, not, List, [], ◌∷◌, ◌++◌, map, filter, ◌==◌, ◌&&◌, ◌||◌, inl, inr, sym, ◌∙◌, ap, subst, refl, arith, eqb-true, eq-eqb, ltb-true, lt-ltb, nat_le, nat_lt}
+use Rattle.std.specs.List.{list_all, list_any}
+use Rattle.tcs_terms.specs.declared.ids.TxId.{TxId}
+use Rattle.tcs_terms.specs.declared.limits.TheConstants.{MAX_SLOT}
+use Rattle.tcs_terms.specs.declared.logs.Row.{Row}
+use Rattle.tcs_terms.specs.Logs.{same_txn, txns_differ, AreRows}
+use Rattle.tcs_terms.specs.Order.{ascends}
+use Rattle.tcs_terms.specs.Preparations.{Preparation}
+use Rattle.tcs_terms.proofs.BoolLaws.{both, left_of, right_of, not_false}
+use Rattle.protocol.specs.Invariant.Logs.{entries_of}
+use Rattle.protocol.specs.Invariant.Time.{StandsIn}
+use Rattle.protocol.proofs.Lists.{StandsIn-append}
+use Rattle.protocol_laws.proofs.Standing.{StandsIn-left}
+
+-- a slot in its range
+abbrev pub slot_fits : Preparation → Bool
+slot_fits x = nat_le 1 x.slot && nat_le x.slot MAX_SLOT
+
+-- an entry before others: of a lower slot, and of another transaction
+pub record StandsBefore (x : Preparation) (xs : List Preparation) : Type 0 where
+  pub fits : slot_fits x ≡ true
+  pub lower : (y : Preparation) → StandsIn y xs → x.slot < y.slot
+  pub apart : (y : Preparation) → StandsIn y xs → x.txn ≡ y.txn → ⊥
+
+abbrev pub InOrder : List Preparation → Type 0
+InOrder [] = Unit {0}
+InOrder (x ∷ xs) = StandsBefore x xs × InOrder xs
+
+pub same_txn-refl : (a : TxId) → same_txn a a ≡ true
+same_txn-refl a = both (a.home == a.home) (a.seq == a.seq) (eq-eqb a.home a.home refl) (eq-eqb a.seq a.seq refl)
+
+pub same_txn-eq : (a b : TxId) → same_txn a b ≡ true → a ≡ b
+same_txn-eq a b h =
+    let p : a.home ≡ b.home = eqb-true a.home b.home (left_of (a.home == b.home) (a.seq == b.seq) h) in
+    let q : a.seq ≡ b.seq = eqb-true a.seq b.seq (right_of (a.home == b.home) (a.seq == b.seq) h) in
+    λ i. record { home = p i; seq = q i }
+
+ascends-rest : (n : ℕ) (ns : List ℕ) → ascends (n ∷ ns) ≡ true → ascends ns ≡ true
+ascends-rest n [] h = refl
+ascends-rest n (k ∷ ns) h = right_of (nat_lt n k) (ascends (k ∷ ns)) h
+
+ascends-lower : (n : ℕ) (ns : List ℕ) → ascends (n ∷ ns) ≡ true → (m : ℕ) → StandsIn m ns → n < m
+ascends-lower n [] h m s = absurd s
+ascends-lower n (k ∷ ns) h m (inl e) = let l : n < k = ltb-true n k (left_of (nat_lt n k) (ascends (k ∷ ns)) h) in omega (arith, l, e)
+ascends-lower n (k ∷ ns) h m (inr s) =
+    let l : n < k = ltb-true n k (left_of (nat_lt n k) (ascends (k ∷ ns)) h) in
+    omega (arith, l, ascends-lower k ns (right_of (nat_lt n k) (ascends (k ∷ ns)) h) m s)
+
+differ-apart : (t : TxId) (ts : List TxId) → list_any (same_txn t) ts ≡ false → (u : TxId) → StandsIn u ts → t ≡ u → ⊥
+differ-apart t [] h u s e = absurd s
+differ-apart t (v ∷ vs) h u (inl q) e = let k : same_txn t v ≡ true = subst (λ w. same_txn t w ≡ true) (e ∙ q) (same_txn-refl t) in go (same_txn t v) k h
+  where
+    go : (b : Bool) → b ≡ true → (b || list_any (same_txn t) vs) ≡ false → ⊥
+    go true k h = cc h
+    go false k h = cc k
+differ-apart t (v ∷ vs) h u (inr s) e = differ-apart t vs (go (same_txn t v) h) u s e
+  where
+    go : (b : Bool) → (b || list_any (same_txn t) vs) ≡ false → list_any (same_txn t) vs ≡ false
+    go true h = absurd (cc h)
+    go false h = h
+
+pub key-StandsIn : {K : Type 0} (key : Preparation → K) (rows : List Row) (y : Preparation) → StandsIn y (entries_of rows) → StandsIn (key y) (map (λ r. key r.entry) rows)
+key-StandsIn key [] y s = absurd s
+key-StandsIn key (r ∷ rs) y (inl e) = inl (ap key e)
+key-StandsIn key (r ∷ rs) y (inr s) = inr (key-StandsIn key rs y s)
+
+-- the entries of rows that may stand in a log are in order
+pub rows-in_order : (rows : List Row) → AreRows rows → InOrder (entries_of rows)
+rows-in_order [] a = tt
+rows-in_order (r ∷ rs) a =
+    let slots : List ℕ = map (λ q. q.entry.slot) rs in
+    let txns : List TxId = map (λ q. q.entry.txn) rs in
+    let differ : list_any (same_txn r.entry.txn) txns ≡ false = not_false (list_any (same_txn r.entry.txn) txns) (left_of (not (list_any (same_txn r.entry.txn) txns)) (txns_differ txns) a.txns_differ) in (
+      record {
+        fits = left_of (slot_fits r.entry) (list_all (λ q. slot_fits q.entry) rs) a.slots;
+        lower = λ y s. ascends-lower r.entry.slot slots a.slots_ascend y.slot (key-StandsIn (λ x. x.slot) rs y s);
+        apart = λ y s. differ-apart r.entry.txn txns differ y.txn (key-StandsIn (λ x. x.txn) rs y s);
+      },
+      rows-in_order rs (record {
+        slots_ascend = ascends-rest r.entry.slot slots a.slots_ascend;
+        slots = right_of (slot_fits r.entry) (list_all (λ q. slot_fits q.entry) rs) a.slots;
+        txns_differ = right_of (not (list_any (same_txn r.entry.txn) txns)) (txns_differ txns) a.txns_differ;
+      }),
+    )
+
+apart-none : (t : TxId) (rows : List Row) → ((y : Preparation) → StandsIn y (entries_of rows) → t ≡ y.txn → ⊥) → list_any (same_txn t) (map (λ q. q.entry.txn) rows) ≡ false
+apart-none t [] h = refl
+apart-none t (r ∷ rs) h = go (same_txn t r.entry.txn) refl (apart-none t rs (λ y s. h y (inr s)))
+  where
+    go : (b : Bool) → same_txn t r.entry.txn ≡ b → list_any (same_txn t) (map (λ q. q.entry.txn) rs) ≡ false → (b || list_any (same_txn t) (map (λ q. q.entry.txn) rs)) ≡ false
+    go true e ih = absurd (h r.entry (inl refl) (same_txn-eq t r.entry.txn e))
+    go false e ih = ih
+
+in_order-ascends : (rows : List Row) → InOrder (entries_of rows) → ascends (map (λ r. r.entry.slot) rows) ≡ true
+in_order-ascends [] o = refl
+in_order-ascends (r ∷ []) o = refl
+in_order-ascends (r ∷ q ∷ rs) o =
+    both (nat_lt r.entry.slot q.entry.slot) (ascends (q.entry.slot ∷ map (λ x. x.entry.slot) rs)) (lt-ltb r.entry.slot q.entry.slot (o.0.lower q.entry (inl refl))) (in_order-ascends (q ∷ rs) o.1)
+
+-- rows whose entries are in order may stand in a log
+pub in_order-rows : (rows : List Row) → InOrder (entries_of rows) → AreRows rows
+in_order-rows [] o = record { slots_ascend = refl; slots = refl; txns_differ = refl }
+in_order-rows (r ∷ rs) o =
+    let rest : AreRows rs = in_order-rows rs o.1 in
+    let txns : List TxId = map (λ q. q.entry.txn) rs in
+    record {
+      slots_ascend = in_order-ascends (r ∷ rs) o;
+      slots = both (slot_fits r.entry) (list_all (λ q. slot_fits q.entry) rs) o.0.fits rest.slots;
+      txns_differ = both (not (list_any (same_txn r.entry.txn) txns)) (txns_differ txns) (ap not (apart-none r.entry.txn rs o.0.apart)) rest.txns_differ;
+    }
+
+-- one list after another
+pub in_order-join : (xs ys : List Preparation) → InOrder xs → InOrder ys → ((x y : Preparation) → StandsIn x xs → StandsIn y ys → (x.slot < y.slot) × (x.txn ≡ y.txn → ⊥)) → InOrder (xs ++ ys)
+in_order-join [] ys p q h = q
+in_order-join (x ∷ xs) ys p q h = (
+  record {
+    fits = p.0.fits;
+    lower = λ y s. elim (StandsIn-append xs ys y s) [ inl a ↦ p.0.lower y a | inr b ↦ (h x y (inl refl) b).0 ];
+    apart = λ y s. elim (StandsIn-append xs ys y s) [ inl a ↦ p.0.apart y a | inr b ↦ (h x y (inl refl) b).1 ];
+  },
+  in_order-join xs ys p.1 q (λ a b s r. h a b (inr s) r),
+)
+
+before-fewer : (x : Preparation) (xs ys : List Preparation) → ((y : Preparation) → StandsIn y ys → StandsIn y xs) → StandsBefore x xs → StandsBefore x ys
+before-fewer x xs ys h b = record { fits = b.fits; lower = λ y s. b.lower y (h y s); apart = λ y s. b.apart y (h y s) }
+
+-- the parts of a list
+pub in_order-left : (xs ys : List Preparation) → InOrder (xs ++ ys) → InOrder xs
+in_order-left [] ys o = tt
+in_order-left (x ∷ xs) ys o = (before-fewer x (xs ++ ys) xs (StandsIn-left xs ys) o.0, in_order-left xs ys o.1)
+
+pub in_order-right : (xs ys : List Preparation) → InOrder (xs ++ ys) → InOrder ys
+in_order-right [] ys o = o
+in_order-right (x ∷ xs) ys o = in_order-right xs ys o.1
+
+pub filtered-StandsIn : (p : Row → Bool) (rows : List Row) (y : Preparation) → StandsIn y (entries_of (filter p rows)) → StandsIn y (entries_of rows)
+filtered-StandsIn p [] y s = s
+filtered-StandsIn p (r ∷ rs) y s = go (p r) s (filtered-StandsIn p rs y)
+  where
+    go : (b : Bool) → StandsIn y (entries_of (cond b (r ∷ filter p rs) (filter p rs))) → (StandsIn y (entries_of (filter p rs)) → StandsIn y (entries_of rs)) → StandsIn y (entries_of (r ∷ rs))
+    go true (inl e) ih = inl e
+    go true (inr q) ih = inr (ih q)
+    go false q ih = inr (ih q)
+
+-- what passes a test
+pub in_order-filter : (p : Row → Bool) (rows : List Row) → InOrder (entries_of rows) → InOrder (entries_of (filter p rows))
+in_order-filter p [] o = tt
+in_order-filter p (r ∷ rs) o = go (p r) (in_order-filter p rs o.1)
+  where
+    go : (b : Bool) → InOrder (entries_of (filter p rs)) → InOrder (entries_of (cond b (r ∷ filter p rs) (filter p rs)))
+    go true ih = (before-fewer r.entry (entries_of rs) (entries_of (filter p rs)) (filtered-StandsIn p rs) o.0, ih)
+    go false ih = ih
+
+-- entries of different slots are of different transactions
+pub in_order-apart : (xs : List Preparation) (x y : Preparation) → InOrder xs → StandsIn x xs → StandsIn y xs → x.slot < y.slot → x.txn ≡ y.txn → ⊥
+in_order-apart [] x y o s r l e = absurd s
+in_order-apart (z ∷ zs) x y o (inl p) (inl q) l e = let k : x.slot ≡ y.slot = ap (λ m. m.slot) (p ∙ sym q) in absurd (omega (arith, k, l))
+in_order-apart (z ∷ zs) x y o (inl p) (inr r) l e = o.0.apart y r (ap (λ m. m.txn) (sym p) ∙ e)
+in_order-apart (z ∷ zs) x y o (inr s) (inl q) l e = let k : z.slot < x.slot = o.0.lower x s in let m : y.slot ≡ z.slot = ap (λ m. m.slot) q in absurd (omega (arith, k, l, m))
+in_order-apart (z ∷ zs) x y o (inr s) (inr r) l e = in_order-apart zs x y o.1 s r l e
+
+-- a slot of an entry in order is in its range
+pub in_order-fits : (xs : List Preparation) (x : Preparation) → InOrder xs → StandsIn x xs → slot_fits x ≡ true
+in_order-fits [] x o s = absurd s
+in_order-fits (z ∷ zs) x o (inl e) = subst (λ m. slot_fits m ≡ true) (sym e) o.0.fits
+in_order-fits (z ∷ zs) x o (inr s) = in_order-fits zs x o.1 s

@@ -1,0 +1,128 @@
+-- What becomes of rows stays fit for a log: rows appended, put, marked, and gathered from pieces.
+use Rattle.std.proofs.Common.{◌≡◌, ℕ, ◌+◌, ◌<◌, ◌≤◌, Bool, true, false, cond, not, List, [], ◌∷◌, ◌++◌, filter, Option, Some, None, is_some, ◌==◌, ◌&&◌, ◌||◌, inl, inr, sym, ◌∙◌, ap, subst, refl, arith, ltb-true, leb-false, le-leb, nat_le, nat_lt}
+use Rattle.std.specs.List.{last_or}
+use Rattle.std.proofs.lemmas.List.{map-append}
+use Rattle.tcs_terms.specs.declared.ids.TxId.{TxId}
+use Rattle.tcs_terms.specs.declared.limits.TheConstants.{MAX_SLOT}
+use Rattle.tcs_terms.specs.declared.logs.Mark.{Mark}
+use Rattle.tcs_terms.specs.declared.logs.Row.{Row}
+use Rattle.tcs_terms.specs.Logs.{same_txn, AreRows}
+use Rattle.tcs_terms.specs.Preparations.{Preparation}
+use Rattle.tcs_terms.proofs.BoolLaws.{both, neither_right}
+use Rattle.protocol.specs.Log.{row_of, row_at, last_slot, slot_or_zero, is_full, undecided, has_at, is_taken, accepted, put_entry, marked, set_mark}
+use Rattle.protocol.specs.Invariant.Logs.{entries_of}
+use Rattle.protocol.specs.Invariant.Time.{StandsIn}
+use Rattle.protocol_laws.proofs.PromisesOrder.{slot_fits, InOrder, same_txn-refl, rows-in_order, in_order-rows, in_order-join, in_order-filter, filtered-StandsIn, in_order-apart}
+use Rattle.protocol_laws.proofs.Standing.{IsMapped, map-StandsIn, find-none}
+
+-- a transaction without a row is that of no entry
+pub no_row : (rows : List Row) (txn : TxId) → row_of rows txn ≡ None → (y : Preparation) → StandsIn y (entries_of rows) → y.txn ≡ txn → ⊥
+no_row rows txn h y s e =
+    let r : IsMapped (λ q. q.entry) rows y = map-StandsIn (λ q. q.entry) rows y s in
+    let f : same_txn r.from.entry.txn txn ≡ false = find-none (λ q. same_txn q.entry.txn txn) rows r.from h r.there in
+    let t : same_txn r.from.entry.txn txn ≡ true = subst (λ x. same_txn x txn ≡ true) (sym e ∙ ap (λ m. m.txn) r.is) (same_txn-refl txn) in
+    cc (f, t)
+
+-- the last slot is the greatest
+pub last-greatest : (o : Option Row) (rows : List Row) → InOrder (entries_of rows) → (y : Preparation) → StandsIn y (entries_of rows) → y.slot ≤ slot_or_zero (last_or o rows)
+last-greatest o [] k y s = absurd s
+last-greatest o (r ∷ []) k y (inl e) = let q : y.slot ≡ r.entry.slot = ap (λ m. m.slot) e in omega (arith, q)
+last-greatest o (r ∷ []) k y (inr s) = absurd s
+last-greatest o (r ∷ q ∷ rs) k y (inl e) =
+    let p : y.slot ≡ r.entry.slot = ap (λ m. m.slot) e in
+    let l : r.entry.slot < q.entry.slot = k.0.lower q.entry (inl refl) in
+    let m : q.entry.slot ≤ slot_or_zero (last_or (Some r) (q ∷ rs)) = last-greatest (Some r) (q ∷ rs) k.1 q.entry (inl refl) in
+    omega (arith, p, l, m)
+last-greatest o (r ∷ q ∷ rs) k y (inr s) = last-greatest (Some r) (q ∷ rs) k.1 y s
+
+one-in_order : (x : Preparation) → slot_fits x ≡ true → InOrder (x ∷ [])
+one-in_order x f = (record { fits = f; lower = λ y s. absurd s; apart = λ y s e. absurd s }, tt)
+
+not-full : (n : ℕ) (last : ℕ) → nat_le MAX_SLOT last ≡ false → n ≡ last + 1 → nat_le 1 n && nat_le n MAX_SLOT ≡ true
+not-full n last h e = both (nat_le 1 n) (nat_le n MAX_SLOT) (le-leb 1 n (omega (arith, e))) (le-leb n MAX_SLOT (let l : last < MAX_SLOT = leb-false MAX_SLOT last h in omega (arith, e, l)))
+
+-- rows with a new entry at the end
+pub appended-rows : (rows : List Row) (x : Preparation) → AreRows rows → row_of rows x.txn ≡ None → is_full rows ≡ false → x.slot ≡ last_slot rows + 1 → AreRows (rows ++ undecided x ∷ [])
+appended-rows rows x a n f e =
+    let o : InOrder (entries_of rows) = rows-in_order rows a in
+    let joined : InOrder (entries_of rows ++ x ∷ []) = in_order-join (entries_of rows) (x ∷ []) o (one-in_order x (not-full x.slot (last_slot rows) f e)) go in
+    in_order-rows (rows ++ undecided x ∷ []) (subst InOrder (sym (map-append (λ r. r.entry) rows (undecided x ∷ []))) joined)
+  where
+    go : (y z : Preparation) → StandsIn y (entries_of rows) → StandsIn z (x ∷ []) → (y.slot < z.slot) × (y.txn ≡ z.txn → ⊥)
+    go y z s (inl q) =
+        let l : y.slot ≤ last_slot rows = last-greatest None rows (rows-in_order rows a) y s in
+        let k : z.slot ≡ x.slot = ap (λ m. m.slot) q in
+        (omega (arith, l, k, e), λ p. no_row rows x.txn n y s (p ∙ ap (λ m. m.txn) q))
+    go y z s (inr q) = absurd q
+
+-- what is below a slot, and above it
+below : (slot : ℕ) (rows : List Row) (y : Preparation) → StandsIn y (entries_of (filter (λ r. nat_lt r.entry.slot slot) rows)) → y.slot < slot
+below slot [] y s = absurd s
+below slot (r ∷ rs) y s = go (nat_lt r.entry.slot slot) refl s (below slot rs y)
+  where
+    go : (b : Bool) → nat_lt r.entry.slot slot ≡ b → StandsIn y (entries_of (cond b (r ∷ filter (λ q. nat_lt q.entry.slot slot) rs) (filter (λ q. nat_lt q.entry.slot slot) rs))) → (StandsIn y (entries_of (filter (λ q. nat_lt q.entry.slot slot) rs)) → y.slot < slot) → y.slot < slot
+    go true e (inl p) ih = let k : y.slot ≡ r.entry.slot = ap (λ m. m.slot) p in omega (arith, k, ltb-true r.entry.slot slot e)
+    go true e (inr q) ih = ih q
+    go false e q ih = ih q
+
+above : (slot : ℕ) (rows : List Row) (y : Preparation) → StandsIn y (entries_of (filter (λ r. nat_lt slot r.entry.slot) rows)) → slot < y.slot
+above slot [] y s = absurd s
+above slot (r ∷ rs) y s = go (nat_lt slot r.entry.slot) refl s (above slot rs y)
+  where
+    go : (b : Bool) → nat_lt slot r.entry.slot ≡ b → StandsIn y (entries_of (cond b (r ∷ filter (λ q. nat_lt slot q.entry.slot) rs) (filter (λ q. nat_lt slot q.entry.slot) rs))) → (StandsIn y (entries_of (filter (λ q. nat_lt slot q.entry.slot) rs)) → slot < y.slot) → slot < y.slot
+    go true e (inl p) ih = let k : y.slot ≡ r.entry.slot = ap (λ m. m.slot) p in omega (arith, k, ltb-true slot r.entry.slot e)
+    go true e (inr q) ih = ih q
+    go false e q ih = ih q
+
+-- an entry put in its place
+put-rows : (rows : List Row) (x : Preparation) → AreRows rows → row_of rows x.txn ≡ None → slot_fits x ≡ true → AreRows (put_entry rows x)
+put-rows rows x a n f =
+    let low : Row → Bool = λ r. nat_lt r.entry.slot x.slot in
+    let high : Row → Bool = λ r. nat_lt x.slot r.entry.slot in
+    let o : InOrder (entries_of rows) = rows-in_order rows a in
+    let upper : InOrder (x ∷ entries_of (filter high rows)) = (
+      record {
+        fits = f;
+        lower = λ y s. above x.slot rows y s;
+        apart = λ y s e. no_row rows x.txn n y (filtered-StandsIn high rows y s) (sym e);
+      },
+      in_order-filter high rows o,
+    ) in
+    let all : InOrder (entries_of (filter low rows) ++ x ∷ entries_of (filter high rows)) = in_order-join (entries_of (filter low rows)) (x ∷ entries_of (filter high rows)) (in_order-filter low rows o) upper (go o) in
+    in_order-rows (put_entry rows x) (subst InOrder (sym (map-append (λ r. r.entry) (filter low rows) (undecided x ∷ filter high rows))) all)
+  where
+    go : InOrder (entries_of rows) → (y z : Preparation) → StandsIn y (entries_of (filter (λ r. nat_lt r.entry.slot x.slot) rows)) → StandsIn z (x ∷ entries_of (filter (λ r. nat_lt x.slot r.entry.slot) rows)) → (y.slot < z.slot) × (y.txn ≡ z.txn → ⊥)
+    go o y z s (inl e) =
+        let l : y.slot < x.slot = below x.slot rows y s in
+        let k : z.slot ≡ x.slot = ap (λ m. m.slot) e in
+        (omega (arith, l, k), λ p. no_row rows x.txn n y (filtered-StandsIn (λ r. nat_lt r.entry.slot x.slot) rows y s) (p ∙ ap (λ m. m.txn) e))
+    go o y z s (inr r) =
+        let l : y.slot < x.slot = below x.slot rows y s in
+        let k : x.slot < z.slot = above x.slot rows z r in
+        let m : y.slot < z.slot = omega (arith, l, k) in
+        (m, in_order-apart (entries_of rows) y z o (filtered-StandsIn (λ r. nat_lt r.entry.slot x.slot) rows y s) (filtered-StandsIn (λ r. nat_lt x.slot r.entry.slot) rows z r) m)
+
+is-none : {X : Type 0} (o : Option X) → is_some o ≡ false → o ≡ None
+is-none None h = refl
+is-none (Some x) h = absurd (cc h)
+
+-- what a follower's rows come to
+pub accepted-rows : (rows : List Row) (x : Preparation) → AreRows rows → is_taken rows x ≡ false → slot_fits x ≡ true → AreRows (accepted rows x)
+accepted-rows rows x a t f = go (has_at rows x.slot x.txn) t
+  where
+    go : (b : Bool) → (not b && (is_some (row_at rows x.slot) || is_some (row_of rows x.txn))) ≡ false → AreRows (cond b rows (put_entry rows x))
+    go true h = a
+    go false h = put-rows rows x a (is-none (row_of rows x.txn) (neither_right (is_some (row_at rows x.slot)) (is_some (row_of rows x.txn)) h)) f
+
+-- marks leave the entries
+pub marked-entries : (rows : List Row) (slot : ℕ) (mark : Mark) → entries_of (marked rows slot mark) ≡ entries_of rows
+marked-entries [] slot mark = refl
+marked-entries (r ∷ rs) slot mark = go (r.entry.slot == slot) (marked-entries rs slot mark)
+  where
+    go : (b : Bool) → entries_of (marked rs slot mark) ≡ entries_of rs → ((cond b (set_mark mark r) r).entry ∷ entries_of (marked rs slot mark)) ≡ (r.entry ∷ entries_of rs)
+    go true ih = ap (λ xs. r.entry ∷ xs) ih
+    go false ih = ap (λ xs. r.entry ∷ xs) ih
+
+-- rows of the same entries
+pub same_entries-rows : (xs ys : List Row) → entries_of xs ≡ entries_of ys → AreRows xs → AreRows ys
+same_entries-rows xs ys e a = in_order-rows ys (subst InOrder e (rows-in_order xs a))
