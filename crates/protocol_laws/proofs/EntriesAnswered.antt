@@ -55,11 +55,12 @@ case-StandsIn txn (e ∷ es) case h = go (same_txn txn e.0) refl h (case-StandsI
 -- a node's view of a shard is a stored configuration of the shard
 pub view_stored : (setup : Deployment) (t : Moment) → ConfigurationsHold setup t → (node : NodeRecord) (shard : ℕ) (view : Membership) → IsNode t node → view_of node.coordinator.views shard ≡ Some view → IsStored t view × (view.shard ≡ shard)
 view_stored setup t ct node shard view n e =
-    let f = find-StandsIn (λ (v : Membership). v.shard == shard) node.coordinator.views view e in
-    (ct.in_nodes node view n
-    (StandsIn-left (node.coordinator.views ++ role_configs node.role ++ probed_configs node.prober) (gathered_configs node.gathering) view
-    (StandsIn-left (node.coordinator.views ++ role_configs node.role) (probed_configs node.prober) view (StandsIn-left node.coordinator.views (role_configs node.role) view f.0))),
-    eqb-true view.shard shard f.1)
+    let f = find-StandsIn (λ (v : Membership). v.shard == shard) node.coordinator.views view e in (
+      ct.in_nodes node view n
+          (StandsIn-left (node.coordinator.views ++ role_configs node.role ++ probed_configs node.prober) (gathered_configs node.gathering) view
+          (StandsIn-left (node.coordinator.views ++ role_configs node.role) (probed_configs node.prober) view (StandsIn-left node.coordinator.views (role_configs node.role) view f.0))),
+      eqb-true view.shard shard f.1,
+    )
 
 -- what holds of a voted part, at its view
 pub voted_part : (t : Moment) (txn : TxId) (views : List Membership) (part : Part) (view : Membership) (entry : Preparation) → PartHolds t txn (view_of views part.shard) part.entry part.acks → view_of views part.shard ≡ Some view → part.entry ≡ Some entry
@@ -81,8 +82,8 @@ answers_by : (node : NodeRecord) (input : Input) (new : NodeRecord) (dest shard 
 answers_by node input new dest shard epoch x (Says m h) = absurd h
 answers_by node input new dest shard epoch x (Answers entry leads still there) = record { of_shard = refl; of_epoch = refl; leads = leads; still = still; there = there }
 
-record Again (node : NodeRecord) (view : Membership) (x : Preparation) : Type 0 where
-  txn : TxId
+pub record Again (node : NodeRecord) (view : Membership) (x : Preparation) : Type 0 where
+  pub txn : TxId
   case : Case
   part : Part
   opened : StandsIn (txn, case) node.coordinator.cases
@@ -122,12 +123,11 @@ follows_some setup t ct pt node n f = go node.role refl f
         let of : FitsRole node (Follower c) = subst (λ (r : Role). FitsRole node r) e (pt.roles node n) in
         let among : StandsIn c (role_configs node.role) = subst (λ (r : Role). StandsIn c (role_configs r)) (sym e) (inl refl) in
         let stored : IsStored t c = ct.in_nodes node c n
-              (StandsIn-left (node.coordinator.views ++ role_configs node.role ++ probed_configs node.prober) (gathered_configs node.gathering) c
-              (StandsIn-left (node.coordinator.views ++ role_configs node.role) (probed_configs node.prober) c (StandsIn-right node.coordinator.views (role_configs node.role) c among))) in
+        (StandsIn-left (node.coordinator.views ++ role_configs node.role ++ probed_configs node.prober) (gathered_configs node.gathering) c
+        (StandsIn-left (node.coordinator.views ++ role_configs node.role) (probed_configs node.prober) c (StandsIn-right node.coordinator.views (role_configs node.role) c among))) in
         subst (λ k. 1 ≤ k) of.0.epoch (some_epoch setup t ct c stored)
 
 module _ (tests : Tests) (setup : Deployment) (t : Moment) (event : Event) (h : Happening) (turn : Turn tests setup t event h) (cu : ConfigurationsHold setup (goes_to t h.after)) (onward : Onward t (goes_to t h.after)) where
-
   abbrev u : Moment
   u = goes_to t h.after
 
@@ -154,7 +154,7 @@ module _ (tests : Tests) (setup : Deployment) (t : Moment) (event : Event) (h : 
   ]
 
   -- an entry that is asked to be accepted now is listed at the view
-  asked_listed : (a : Acting tests setup t event h) (view : Membership) (x : Preparation) → VotesNow a.node a.input view x ⊎ Again a.node view x → IsStored t view × Listed t view x
+  pub asked_listed : (a : Acting tests setup t event h) (view : Membership) (x : Preparation) → VotesNow a.node a.input view x ⊎ Again a.node view x → IsStored t view × Listed t view x
   asked_listed a view x (inr g) =
       let c : CaseHolds t a.node.coordinator.views g.txn g.case = turn.before.entries.cases a.node g.txn g.case a.is g.opened in
       ((view_stored setup t turn.before.configurations a.node g.part.shard view a.is g.sees).0, (voted_part t g.txn a.node.coordinator.views g.part view x (c.parts g.part g.has) g.sees g.entry).0)
@@ -162,8 +162,10 @@ module _ (tests : Tests) (setup : Deployment) (t : Moment) (event : Event) (h : 
     where
       stored : IsStored t view × (view.shard ≡ v.shard)
       stored = view_stored setup t turn.before.configurations a.node v.shard view a.is v.is_open.sees
+
       found : StandsIn v.part v.case.parts × ((v.part.shard == v.shard) ≡ true)
       found = find-StandsIn (λ (p : Part). p.shard == v.shard) v.case.parts v.part v.is_open.has
+
       by : (o : Option Preparation) → v.part.entry ≡ o → IsStored t view × Listed t view x
       by None e =
           let sent : WasSent t v.from a.node.name (PrepareAck v.shard view.epoch v.answered) = delivered setup t a.node.name event v.from (PrepareAck v.shard view.epoch v.answered) turn.fits (subst (λ (i : Input). Comes t.now a.node.name event i) v.delivers a.comes) in
@@ -187,6 +189,7 @@ module _ (tests : Tests) (setup : Deployment) (t : Moment) (event : Event) (h : 
       before k =
           let g : GrewFrom t node = onward.back node n in
           subst (λ s. ListedAt u s epoch x) (sym g.grows.shard) (listed_at-on t u g.old.shard epoch x onward (turn.before.entries.accepting from epoch g.old x g.is (subst (λ n. WasSent t from n (Accept epoch x)) g.grows.name k)))
+
       now : (k : SentNow tests setup t event h from node.name (Accept epoch x)) → AsksBy k.acting.node k.acting.input node.name epoch x → ListedAt u node.shard epoch x
       now k b =
           let l = asked_listed k.acting b.view x b.why in

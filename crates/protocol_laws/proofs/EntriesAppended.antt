@@ -50,7 +50,6 @@ mark_stands t shard epoch r holds = by r.mark refl
     by Aborted e = let b : IsBehind t shard epoch r.entry.slot r.entry.txn false = holds false e in decided_abort t.now.history r.entry.txn b.decision b.noted b.sense
 
 module _ (tests : Tests) (setup : Deployment) (t : Moment) (event : Event) (h : Happening) (turn : Turn tests setup t event h) (cu : ConfigurationsHold setup (goes_to t h.after)) (onward : Onward t (goes_to t h.after)) where
-
   abbrev u : Moment
   u = goes_to t h.after
 
@@ -151,9 +150,9 @@ module _ (tests : Tests) (setup : Deployment) (t : Moment) (event : Event) (h : 
     vote = ap (λ (p : Preparation). p.vote) a.entry ∙ ap (λ o. vote_on_part tests a.node.rows o) (sym (ap (λ (p : Preparation). p.payload) a.entry));
     above = λ y k lower. above y lower (joined-entries a.node.rows (undecided x ∷ []) y (in_its_rows u c y pu (appending_now tests setup t event h turn cu onward c x a) k));
     new = λ r s. (
-      let low : r.entry.slot ≤ last_slot a.node.rows = row-upto_last a.node.rows (turn.before.promises.rows a.node a.is) r s in
-      let slot : x.slot ≡ last_slot a.node.rows + 1 = ap (λ (p : Preparation). p.slot) a.entry in
-      (omega (arith, low, slot), λ e. row-none a.node.rows a.txn a.none r s (e ∙ ap (λ (p : Preparation). p.txn) a.entry)));
+        let low : r.entry.slot ≤ last_slot a.node.rows = row-upto_last a.node.rows (turn.before.promises.rows a.node a.is) r s in
+        let slot : x.slot ≡ last_slot a.node.rows + 1 = ap (λ (p : Preparation). p.slot) a.entry in
+        (omega (arith, low, slot), λ e. row-none a.node.rows a.txn a.none r s (e ∙ ap (λ (p : Preparation). p.txn) a.entry)));
     marks = λ r s. mark_stands t a.node.shard a.node.state r (turn.before.decisions.rows a.node r a.is s);
   }
     where

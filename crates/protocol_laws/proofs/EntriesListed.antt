@@ -49,7 +49,6 @@ pub in_its_rows : (u : Moment) (c : Membership) (x : Preparation) → PromisesHo
 in_its_rows u c x pu n l = pu.held n.node x n.is (subst (λ (e : ℕ). Held u e n.node.name x) (sym n.state) (subst (λ (k : ℕ). Held u c.epoch k x) (sym n.named) l.held))
 
 module _ (tests : Tests) (setup : Deployment) (t : Moment) (event : Event) (h : Happening) (turn : Turn tests setup t event h) (cu : ConfigurationsHold setup (goes_to t h.after)) (onward : Onward t (goes_to t h.after)) where
-
   abbrev u : Moment
   u = goes_to t h.after
 
@@ -83,9 +82,11 @@ module _ (tests : Tests) (setup : Deployment) (t : Moment) (event : Event) (h : 
       entered e s (inr f) =
           let i : HasInitial t c = (entries_of e.new.rows, f.initial) in
           inl (record { initial = i; held = turn.before.transfer.at_least c c.leader (entries_of e.new.rows) x f.initial (leads_member setup t turn.before.configurations c f.stored) (turn.before.transfer.leader_reached c i) s })
+
       initial : Held t c.epoch c.leader x → Initial t c l.initial.0 ⊎ LeadsWith t u c l.initial.0 → HasInitial t c
       initial k (inl i) = (l.initial.0, i)
       initial k (inr w) = turn.before.transfer.led c w.leading.stored (record { node = k.node; was = k.was; some = k.some })
+
       by : Held t c.epoch c.leader x ⊎ Gains tests t u c c.leader x → Listed t c x ⊎ LeadsHolding t u c x ⊎ Appending tests t u c x
       by (inl k) = inl (record { initial = initial k (initial_back tests setup t event h turn cu onward c l.initial.0 l.initial.1); held = k })
       by (inr (EntersWith e k)) = entered e k e.how
@@ -106,6 +107,7 @@ module _ (tests : Tests) (setup : Deployment) (t : Moment) (event : Event) (h : 
     where
       in_rows : LeaderNow u c → P x y
       in_rows n = now n (in_its_rows u c x pu n a) (in_its_rows u c y pu n b)
+
       by : Listed t c x ⊎ LeadsHolding t u c x ⊎ Appending tests t u c x → Listed t c y ⊎ LeadsHolding t u c y ⊎ Appending tests t u c y → P x y
       by (inl k) (inl l) = before k l
       by (inr (inl k)) l = in_rows (leading_now c k.leading)

@@ -106,6 +106,10 @@ pub mod EntriesRows
 pub mod EntriesListed
 pub mod EntriesAppended
 pub mod EntriesAnswered
+pub mod EntriesKeyed
+pub mod EntriesCases
+pub mod EntriesCasesKept
+pub mod EntriesListsKept
 pub mod NamesOnce
 pub mod PayloadReads
 pub mod LegalOrder

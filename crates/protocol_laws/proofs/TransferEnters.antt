@@ -72,16 +72,23 @@ state_by tests version node input out (Leads from config shard role promised lea
 state_by tests version node input out (Follows from config rows v may) =
     inr (inr (record { config = config; may = may; rows = rows; gathering = _; is = refl; came = inl (from, refl) }))
 state_by tests version node input out (FollowsPieces from config number pieces rows new v may takes e whole) =
-    inr (inr (record { config = config; may = may; rows = rows_of new.kept; gathering = None; is = refl; came = inr (record {
-      from = from;
-      number = number;
-      pieces = pieces;
-      piece = rows;
-      delivers = refl;
-      takes = takes;
-      whole = subst (λ g. is_whole g ≡ true) e whole;
-      is = ap (λ (g : Gathering). rows_of g.kept) e;
-    }) }))
+    inr (inr (record {
+      config = config;
+      may = may;
+      rows = rows_of new.kept;
+      gathering = None;
+      is = refl;
+      came = inr (record {
+        from = from;
+        number = number;
+        pieces = pieces;
+        piece = rows;
+        delivers = refl;
+        takes = takes;
+        whole = subst (λ g. is_whole g ≡ true) e whole;
+        is = ap (λ (g : Gathering). rows_of g.kept) e;
+      });
+    }))
 state_by tests version node input out (Rests i answer notices n) = inl refl
 state_by tests version node input out _ = inl refl
 
@@ -96,10 +103,6 @@ pub record Leading (t u : Moment) (c : Membership) : Type 0 where
   pub stored : IsStored t c
   pub below : node.state < c.epoch
   pub there : IsNode u (record node { role = Leader c; state = c.epoch })
-
--- what that node is afterwards
-abbrev pub leads_now : {t u : Moment} {c : Membership} → Leading t u c → NodeRecord
-leads_now {c = c} l = record l.node { role = Leader c; state = c.epoch }
 
 -- a node that becomes follower of a stored configuration, with its initial entries
 pub record Following (t u : Moment) (c : Membership) (new : NodeRecord) : Type 0 where
@@ -155,10 +158,10 @@ followed tests setup t event h turn a config rows (inl w) =
     (turn.before.configurations.in_messages w.0 a.node.name (NewState config rows) config sent refl, turn.before.transfer.whole w.0 a.node.name config rows sent)
 followed tests setup t event h turn a config rows (inr w) =
     let sent : WasSent t w.from a.node.name (StatePiece config w.number w.pieces w.piece)
-        = delivered setup t a.node.name event w.from (StatePiece config w.number w.pieces w.piece) turn.fits (subst (λ (i : Input). Comes t.now a.node.name event i) w.delivers a.comes) in
+    = delivered setup t a.node.name event w.from (StatePiece config w.number w.pieces w.piece) turn.fits (subst (λ (i : Input). Comes t.now a.node.name event i) w.delivers a.comes) in
     let g : Gathering = with_one_more (gathering_for a.node.gathering config w.pieces) (record { number = w.number; rows = w.piece }) in
     let all : Initial t config (entries_of (rows_of g.kept))
-        = whole-Initial t turn.before.transfer a.node.name w.from a.node.name config w.number w.pieces w.piece g (gathered t turn.before.transfer a.node w.from config w.number w.pieces w.piece a.is sent w.takes) sent w.whole in
+    = whole-Initial t turn.before.transfer a.node.name w.from a.node.name config w.number w.pieces w.piece g (gathered t turn.before.transfer a.node w.from config w.number w.pieces w.piece a.is sent w.takes) sent w.whole in
     (turn.before.configurations.in_messages w.from a.node.name (StatePiece config w.number w.pieces w.piece) config sent refl, subst (λ rows. Initial t config (entries_of rows)) (sym w.is) all)
 
 following_of : (tests : Tests) (setup : Deployment) (t : Moment) (event : Event) (h : Happening) → Turn tests setup t event h → (a : Acting tests setup t event h) (b : BecomesFollower a.node a.input a.out.kept) → Following t (goes_to t h.after) b.config a.out.kept

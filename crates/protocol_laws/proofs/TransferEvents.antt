@@ -102,12 +102,12 @@ message_by tests setup t event h (Stops name) from dest m s = inl (record { sent
 message_by tests setup t event h (Acts e name node input out c found stands named running effect) from dest m s = elim (sent-back t.now.messages name out.sends (record { from = from; to = dest; message = m }) s.sent) [
   | inl p ↦ inl (record { sent = p })
   | inr p ↦ (let q = sent_from from name dest m out.sends p in
-    inr (inl (record { acting = acting_of tests setup t e name node input out c stands named effect; sender = q.0 ∙ sym named; among = q.1 })))
+      inr (inl (record { acting = acting_of tests setup t e name node input out c stands named effect; sender = q.0 ∙ sym named; among = q.1 })))
 ]
 message_by tests setup t event h (AtService number asker asked sent out e found stands serves) from dest m s = elim (sent-back t.now.messages 0 out.sends (record { from = from; to = dest; message = m }) s.sent) [
   | inl p ↦ inl (record { sent = p })
   | inr p ↦ (let q = sent_from from 0 dest m out.sends p in
-    inr (inr (record { out = out; asker = asker; asked = asked; nodes = _; serves = serves; sender = q.0; among = q.1 })))
+      inr (inr (record { out = out; asker = asker; asked = asked; nodes = _; serves = serves; sender = q.0; among = q.1 })))
 ]
 
 -- a message after an event was sent before, or by who acted

@@ -107,7 +107,7 @@ whole-Initial t transfer name from to config number pieces rows g gathered sent 
         let count : pieces ≡ piece_count all = (sent_all.pieces from to number pieces rows sent).0 in
         let long : length g.kept ≡ g.pieces = eqb-true (length g.kept) g.pieces whole in
         let is : rows_of g.kept ≡ all = pieces-all all g.kept (long ∙ (gathered.of_pieces ∙ count)) gathered.in_order
-              (λ p s. let k = gathered.kept p s in let h = sent_all.pieces k.0 name p.number pieces p.rows k.1 in (h.1, subst (λ n. p.number ≤ n) count h.2, h.3)) in
+        (λ p s. let k = gathered.kept p s in let h = sent_all.pieces k.0 name p.number pieces p.rows k.1 in (h.1, subst (λ n. p.number ≤ n) count h.2, h.3)) in
         subst (λ rows. Initial t config (entries_of rows)) (sym is) sent_all.initial
 
 -- a node took a piece, and gathers this now
@@ -156,10 +156,14 @@ gathering_of : (tests : Tests) (setup : Deployment) (t : Moment) (event : Event)
     → GatheredBefore t a.out.kept g ⊎ GathersNow t a.out.kept g
 gathering_of tests setup t event h turn a g e = elim (gathering_by tests setup.version a.node a.input a.out a.effect g e) [
   | inl k ↦ inl (record { old = a.node; is = a.is; named = sym (effect_name tests setup.version a.node a.input a.out a.effect); gathers = k })
-  | inr k ↦ inr (record { config = k.config; pieces = k.pieces; gathered =
-      (let sent : WasSent t k.from a.node.name (StatePiece k.config k.number k.pieces k.rows) = delivered setup t a.node.name event k.from (StatePiece k.config k.number k.pieces k.rows) turn.fits (subst (λ (i : Input). Comes t.now a.node.name event i) k.delivers a.comes) in
-      subst (λ (n : ℕ). IsGathered t n k.config k.pieces g) (sym (effect_name tests setup.version a.node a.input a.out a.effect))
-      (subst (λ (f : Gathering). IsGathered t a.node.name k.config k.pieces f) (sym k.is) (gathered t turn.before.transfer a.node k.from k.config k.number k.pieces k.rows a.is sent k.takes))) })
+  | inr k ↦ inr (record {
+    config = k.config;
+    pieces = k.pieces;
+    gathered =
+        (let sent : WasSent t k.from a.node.name (StatePiece k.config k.number k.pieces k.rows) = delivered setup t a.node.name event k.from (StatePiece k.config k.number k.pieces k.rows) turn.fits (subst (λ (i : Input). Comes t.now a.node.name event i) k.delivers a.comes) in
+        subst (λ (n : ℕ). IsGathered t n k.config k.pieces g) (sym (effect_name tests setup.version a.node a.input a.out a.effect))
+        (subst (λ (f : Gathering). IsGathered t a.node.name k.config k.pieces f) (sym k.is) (gathered t turn.before.transfer a.node k.from k.config k.number k.pieces k.rows a.is sent k.takes)));
+  })
 ]
 
 pub gathering_back : (tests : Tests) (setup : Deployment) (t : Moment) (event : Event) (h : Happening) → Turn tests setup t event h → (new : NodeRecord) (g : Gathering) → IsNode (goes_to t h.after) new → new.gathering ≡ Some g
@@ -174,10 +178,12 @@ pub kept_then : (tests : Tests) (setup : Deployment) (t : Moment) (event : Event
     → new.gathering ≡ Some g → StandsIn piece g.kept → IsKeptOf (goes_to t h.after) new g piece
 kept_then tests setup t event h turn onward new g piece n e s = elim (gathering_back tests setup t event h turn new g n e) [
   | inl k ↦ (let old : IsKeptOf t k.old g piece = turn.before.transfer.kept k.old g piece k.is k.gathers s in
-    (old.0, sent-on t (goes_to t h.after) old.0 new.name (StatePiece g.config piece.number g.pieces piece.rows) onward (subst (λ (n : ℕ). WasSent t old.0 n (StatePiece g.config piece.number g.pieces piece.rows)) k.named old.1)))
-  | inr k ↦ (let it = k.gathered.kept piece s in
-    (it.0, sent-on t (goes_to t h.after) it.0 new.name (StatePiece g.config piece.number g.pieces piece.rows) onward
-    (subst (λ (c : Membership). WasSent t it.0 new.name (StatePiece c piece.number g.pieces piece.rows)) (sym k.gathered.of_config) (subst (λ (p : ℕ). WasSent t it.0 new.name (StatePiece k.config piece.number p piece.rows)) (sym k.gathered.of_pieces) it.1))))
+      (old.0, sent-on t (goes_to t h.after) old.0 new.name (StatePiece g.config piece.number g.pieces piece.rows) onward (subst (λ (n : ℕ). WasSent t old.0 n (StatePiece g.config piece.number g.pieces piece.rows)) k.named old.1)))
+  | inr k ↦ (let it = k.gathered.kept piece s in (
+    it.0,
+    sent-on t (goes_to t h.after) it.0 new.name (StatePiece g.config piece.number g.pieces piece.rows) onward
+        (subst (λ (c : Membership). WasSent t it.0 new.name (StatePiece c piece.number g.pieces piece.rows)) (sym k.gathered.of_config) (subst (λ (p : ℕ). WasSent t it.0 new.name (StatePiece k.config piece.number p piece.rows)) (sym k.gathered.of_pieces) it.1)),
+  ))
 ]
 
 -- and the pieces ascend

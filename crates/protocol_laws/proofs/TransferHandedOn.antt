@@ -58,7 +58,6 @@ handed_by_skipped setup t ct earlier entries s k =
 
 -- what the leader has and is, before it leads
 module _ (tests : Tests) (setup : Deployment) (t : Moment) (event : Event) (h : Happening) (turn : Turn tests setup t event h) (cu : ConfigurationsHold setup (goes_to t h.after)) (onward : Onward t (goes_to t h.after)) (c : Membership) (l : Leading t (goes_to t h.after) c) where
-
   -- the leader answered with its state epoch
   pub leader_state : (k : IsChosen t c) → l.node.state ≡ k.state
   leader_state k =
@@ -114,8 +113,10 @@ module _ (tests : Tests) (setup : Deployment) (t : Moment) (event : Event) (h : 
     where
       s : IsStored t earlier
       s = earlier_stored tests setup t event h turn c earlier l.stored su e q
+
       chosen : IsChosen t c
       chosen = turn.before.choice.stored c l.stored (let one : 1 ≤ earlier.epoch = some_epoch setup t turn.before.configurations earlier s in omega (arith, one, q))
+
       by : (chosen.state < earlier.epoch) ⊎ (chosen.state ≡ earlier.epoch) ⊎ (earlier.epoch < chosen.state) → IsHandedOn (goes_to t h.after) earlier (entries_of l.node.rows)
       by (inl a) = handed_still setup t (goes_to t h.after) cu onward earlier (entries_of l.node.rows)
           (handed_by_skipped setup t turn.before.configurations earlier (entries_of l.node.rows) s (subst (λ n. Skipped t n earlier.epoch) (sym e) (chosen.between earlier.epoch a q)))

@@ -65,6 +65,7 @@ accepted-StandsIn rows entry x s = go (has_at rows entry.slot entry.txn) s
     put (inl k) = inl (filtered-entries (λ (r : Row). nat_lt r.entry.slot entry.slot) rows x k)
     put (inr (inl e)) = inr e
     put (inr (inr k)) = inl (filtered-entries (λ (r : Row). nat_lt entry.slot r.entry.slot) rows x k)
+
     go : (b : Bool) → StandsIn x (entries_of (cond b rows (put_entry rows entry))) → StandsIn x (entries_of rows) ⊎ (x ≡ entry)
     go true k = inl k
     go false k = put (joined-entries (filter (λ (r : Row). nat_lt r.entry.slot entry.slot) rows) (undecided entry ∷ filter (λ (r : Row). nat_lt entry.slot r.entry.slot) rows) x k)
@@ -136,10 +137,15 @@ leads_it setup t ct node n pt l = go node.role refl l
     go (Follower c) e k = absurd (cc k)
     go (Leader c) e k =
         let f : FitsRole node (Leader c) = subst (λ (r : Role). FitsRole node r) e (pt.roles node n) in
-        let among : StandsIn c (role_configs node.role) = subst (λ (r : Role). StandsIn c (role_configs r)) (sym e) (inl refl) in
-        (c, e, ct.in_nodes node c n
-        (StandsIn-left (node.coordinator.views ++ role_configs node.role ++ probed_configs node.prober) (gathered_configs node.gathering) c
-        (StandsIn-left (node.coordinator.views ++ role_configs node.role) (probed_configs node.prober) c (StandsIn-right node.coordinator.views (role_configs node.role) c among))), f.0, f.1)
+        let among : StandsIn c (role_configs node.role) = subst (λ (r : Role). StandsIn c (role_configs r)) (sym e) (inl refl) in (
+          c,
+          e,
+          ct.in_nodes node c n
+              (StandsIn-left (node.coordinator.views ++ role_configs node.role ++ probed_configs node.prober) (gathered_configs node.gathering) c
+              (StandsIn-left (node.coordinator.views ++ role_configs node.role) (probed_configs node.prober) c (StandsIn-right node.coordinator.views (role_configs node.role) c among))),
+          f.0,
+          f.1,
+        )
 
 -- a member of a configuration that holds an entry there held it before, or comes to hold it
 pub held_how : (tests : Tests) (setup : Deployment) (t : Moment) (event : Event) (h : Happening) → Turn tests setup t event h → ConfigurationsHold setup (goes_to t h.after) → Onward t (goes_to t h.after) → (c : Membership) (name : ℕ) (x : Preparation) → IsStored (goes_to t h.after) c → StandsIn name c.members → Held (goes_to t h.after) c.epoch name x
@@ -151,10 +157,13 @@ held_how tests setup t event h turn cu onward c name x s m held = elim (held-bac
   where
     old_name : (i : HoldsNow (goes_to t h.after) c.epoch name x) (o : IsOfActing tests setup t event h i.node) → o.acting.node.name ≡ name
     old_name i o = sym (effect_name tests setup.version o.acting.node o.acting.input o.acting.out o.acting.effect) ∙ (sym (ap (λ (n : NodeRecord). n.name) o.is) ∙ i.named)
+
     old_shard : (i : HoldsNow (goes_to t h.after) c.epoch name x) (o : IsOfActing tests setup t event h i.node) → o.acting.node.shard ≡ c.shard
     old_shard i o = sym (effect_shard tests setup.version o.acting.node o.acting.input o.acting.out o.acting.effect) ∙ (sym (ap (λ (n : NodeRecord). n.shard) o.is) ∙ member_shard setup (goes_to t h.after) cu c i.node s i.is (subst (λ k. StandsIn k c.members) (sym i.named) m))
+
     same : (d : Membership) → IsStored t d → d.shard ≡ c.shard → d.epoch ≡ c.epoch → d ≡ c
     same d k e f = one_config setup (goes_to t h.after) cu d c (onward.stored d k) s e f
+
     appending : (i : HoldsNow (goes_to t h.after) c.epoch name x) (o : IsOfActing tests setup t event h i.node) (a : AppendsEntry tests o.acting.node o.acting.out.kept x) (d : Membership) → d ≡ c → o.acting.node.role ≡ Leader d → IsStored t d → IsOf o.acting.node d → d.leader ≡ o.acting.node.name
         → Gains tests t (goes_to t h.after) c name x
     appending i o a d is role stored of leader = AppendsIt (subst (λ (y : Membership). Appending tests t (goes_to t h.after) y x) is (record {
@@ -172,6 +181,7 @@ held_how tests setup t event h turn cu onward c name x s m held = elim (held-bac
       entry = a.entry;
       there = subst (λ (n : NodeRecord). IsNode (goes_to t h.after) n) a.is o.acting.there;
     })) (sym (ap (λ (y : Membership). y.leader) is) ∙ (leader ∙ old_name i o))
+
     stays : (i : HoldsNow (goes_to t h.after) c.epoch name x) (o : IsOfActing tests setup t event h i.node) → o.acting.node.state ≡ c.epoch → StandsIn x (entries_of o.acting.node.rows) ⊎ AppendsEntry tests o.acting.node o.acting.out.kept x ⊎ TakesEntry o.acting.node o.acting.input x → Held t c.epoch name x ⊎ Gains tests t (goes_to t h.after) c name x
     stays i o e (inl k) = inl (record { node = o.acting.node; was = is_in-now t c.epoch name o.acting.node o.acting.is (old_name i o) e; some = held.some; holds = k })
     stays i o e (inr (inl a)) =
@@ -182,6 +192,7 @@ held_how tests setup t event h turn cu onward c name x s m held = elim (held-bac
         let sent : WasSent t a.from o.acting.node.name (Accept o.acting.node.state x) = delivered setup t o.acting.node.name event a.from (Accept o.acting.node.state x) turn.fits (subst (λ (j : Input). Comes t.now o.acting.node.name event j) a.delivers o.acting.comes) in
         let l : ListedAt t o.acting.node.shard o.acting.node.state x = turn.before.entries.accepting a.from o.acting.node.state o.acting.node x o.acting.is sent in
         inr (AcceptsIt (subst (λ (y : Membership). Listed t y x) (same l.config l.stored (l.of_shard ∙ old_shard i o) (l.of_epoch ∙ e)) l.listed))
+
     acted : (i : HoldsNow (goes_to t h.after) c.epoch name x) (o : IsOfActing tests setup t event h i.node) → (o.acting.out.kept.state ≡ o.acting.node.state) ⊎ EntersAs t (goes_to t h.after) o.acting.out.kept → Held t c.epoch name x ⊎ Gains tests t (goes_to t h.after) c name x
     acted i o (inl e) =
         stays i o (sym e ∙ (sym (ap (λ (n : NodeRecord). n.state) o.is) ∙ i.in_epoch))
@@ -194,6 +205,7 @@ held_how tests setup t event h turn cu onward c name x s m held = elim (held-bac
           state = i.in_epoch;
           how = enters_it setup t (goes_to t h.after) onward cu c i.node s i.is (subst (λ k. StandsIn k c.members) (sym i.named) m) i.in_epoch (subst (λ (n : NodeRecord). EntersAs t (goes_to t h.after) n) (sym o.is) f);
         }) i.holds)
+
     is_in : (i : HoldsNow (goes_to t h.after) c.epoch name x) → IsNode t i.node ⊎ IsOfActing tests setup t event h i.node → Held t c.epoch name x ⊎ Gains tests t (goes_to t h.after) c name x
     is_in i (inl n) = inl (record { node = i.node; was = is_in-now t c.epoch name i.node n i.named i.in_epoch; some = held.some; holds = i.holds })
     is_in i (inr o) = acted i o (enters tests setup t event h turn o.acting)

@@ -70,8 +70,10 @@ initial_back tests setup t event h turn cu onward c entries i = begun i.begun
   where
     one : 1 ≤ c.epoch
     one = some_epoch setup (goes_to t h.after) cu c i.stored
+
     with_it : (d : Membership) → d ≡ c → (l : Leading t (goes_to t h.after) d) → entries ≡ entries_of l.node.rows → LeadsWith t (goes_to t h.after) c entries
     with_it d e l x = subst (λ (d : Membership). LeadsWith t (goes_to t h.after) d entries) e (record { leading = l; is = x })
+
     -- the node that became leader, as it was
     now : (rows : List Row) (after before : World) (earlier : List World) → h.after ∷ t.now ∷ t.before ≡ after ∷ before ∷ earlier → (old node : NodeRecord) → StandsIn old before.nodes → old.name ≡ c.leader → old.state < c.epoch
         → StandsIn node after.nodes → node.name ≡ c.leader → node.role ≡ Leader c → node.state ≡ c.epoch → node.rows ≡ rows → entries ≡ entries_of rows → LeadsWith t (goes_to t h.after) c entries
@@ -87,10 +89,10 @@ initial_back tests setup t event h turn cu onward c entries i = begun i.begun
       where
         acted : (o : IsOfActing tests setup t event h node) → (o.acting.out.kept.state ≡ o.acting.node.state) ⊎ EntersAs t (goes_to t h.after) o.acting.out.kept → LeadsWith t (goes_to t h.after) c entries
         acted o (inl e) = absurd (
-          let named : o.acting.node.name ≡ old.name = sym (effect_name tests setup.version o.acting.node o.acting.input o.acting.out o.acting.effect) ∙ (sym (ap (λ (x : NodeRecord). x.name) o.is) ∙ (nn ∙ sym on)) in
-          let same : o.acting.node ≡ old = one_node setup t o.acting.node old turn.before.configurations o.acting.is (subst (λ (w : World). StandsIn old w.nodes) (let eb : before ≡ t.now = cc e0 in eb) os) named in
-          let q : old.state ≡ c.epoch = ap (λ (n : NodeRecord). n.state) (sym same) ∙ (sym e ∙ (sym (ap (λ (x : NodeRecord). x.state) o.is) ∙ ne)) in
-          omega (arith, q, ol))
+            let named : o.acting.node.name ≡ old.name = sym (effect_name tests setup.version o.acting.node o.acting.input o.acting.out o.acting.effect) ∙ (sym (ap (λ (x : NodeRecord). x.name) o.is) ∙ (nn ∙ sym on)) in
+            let same : o.acting.node ≡ old = one_node setup t o.acting.node old turn.before.configurations o.acting.is (subst (λ (w : World). StandsIn old w.nodes) (let eb : before ≡ t.now = cc e0 in eb) os) named in
+            let q : old.state ≡ c.epoch = ap (λ (n : NodeRecord). n.state) (sym same) ∙ (sym e ∙ (sym (ap (λ (x : NodeRecord). x.state) o.is) ∙ ne)) in
+            omega (arith, q, ol))
         acted o (inr f) = how f.how
           where
             how : LeadsAs t (goes_to t h.after) f.config o.acting.out.kept ⊎ Following t (goes_to t h.after) f.config o.acting.out.kept → LeadsWith t (goes_to t h.after) c entries
@@ -98,12 +100,14 @@ initial_back tests setup t event h turn cu onward c entries i = begun i.begun
                 let is : f.config ≡ c = same_leader f.config c (sym (ap (λ (x : NodeRecord). x.role) (o.is ∙ l.is)) ∙ nr) in
                 with_it f.config is l.leading (x ∙ ap entries_of (sym nw ∙ ap (λ (x : NodeRecord). x.rows) (o.is ∙ l.is)))
             how (inr l) = absurd (not_following c f.config (sym nr ∙ (ap (λ (x : NodeRecord). x.role) o.is ∙ l.role)))
+
     past : (rows : List Row) (b : BecameLeader (goes_to t h.after) c rows) → entries ≡ entries_of rows → (later : List World) → b.later ≡ later → Initial t c entries ⊎ LeadsWith t (goes_to t h.after) c entries
     past rows b x [] e = inr (now rows b.after b.before b.earlier (b.moments ∙ ap (λ ws. ws ++ (b.after ∷ b.before ∷ b.earlier)) e) b.old b.node b.old_node b.old_name b.old_state b.new_node b.new_name b.leads b.state b.rows_then x)
     past rows b x (w ∷ ws) e =
         let moments : worlds t ≡ ws ++ (b.after ∷ b.before ∷ b.earlier) = cc (b.moments, e) in
         let became : BecameLeader t c rows = record { later = ws; after = b.after; before = b.before; earlier = b.earlier; moments = moments; old = b.old; old_node = b.old_node; old_name = b.old_name; old_state = b.old_state; node = b.node; new_node = b.new_node; new_name = b.new_name; leads = b.leads; state = b.state; rows_then = b.rows_then } in
         inl (record { stored = stored_then tests setup t event h turn cu onward c c.leader i.stored (leads_member setup (goes_to t h.after) cu c i.stored) (became_reached t c rows one became); begun = inr (rows, became, x) })
+
     begun : ((c.epoch ≡ 1) × (entries ≡ [])) ⊎ ((rows : List Row) × BecameLeader (goes_to t h.after) c rows × (entries ≡ entries_of rows)) → Initial t c entries ⊎ LeadsWith t (goes_to t h.after) c entries
     begun (inl p) = inl (record { stored = first_then tests setup t event h turn c i.stored p.0; begun = inl p })
     begun (inr b) = past b.0 b.1 b.2 b.1.later refl
@@ -119,21 +123,25 @@ no_initial tests setup t event h turn c l i =
 pub initial_now : (t : Moment) (w : World) (c : Membership) → Onward t (goes_to t w) → (l : Leading t (goes_to t w) c) → Initial (goes_to t w) c (entries_of l.node.rows)
 initial_now t w c onward l = record {
   stored = onward.stored c l.stored;
-  begun = inr (l.node.rows, record {
-    later = [];
-    after = w;
-    before = t.now;
-    earlier = t.before;
-    moments = refl;
-    old = l.node;
-    old_node = l.is;
-    old_name = sym l.leader;
-    old_state = l.below;
-    node = record l.node { role = Leader c; state = c.epoch };
-    new_node = l.there;
-    new_name = sym l.leader;
-    leads = refl;
-    state = refl;
-    rows_then = refl;
-  }, refl);
+  begun = inr (
+    l.node.rows,
+    record {
+      later = [];
+      after = w;
+      before = t.now;
+      earlier = t.before;
+      moments = refl;
+      old = l.node;
+      old_node = l.is;
+      old_name = sym l.leader;
+      old_state = l.below;
+      node = record l.node { role = Leader c; state = c.epoch };
+      new_node = l.there;
+      new_name = sym l.leader;
+      leads = refl;
+      state = refl;
+      rows_then = refl;
+    },
+    refl,
+  );
 }

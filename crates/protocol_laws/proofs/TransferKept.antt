@@ -29,7 +29,6 @@ use Rattle.protocol_laws.proofs.TransferReached.{Enters, reached_how, stored_the
 use Rattle.protocol_laws.proofs.TransferSent.{whole_then, pieces_then}
 
 module _ (tests : Tests) (setup : Deployment) (t : Moment) (event : Event) (h : Happening) (turn : Turn tests setup t event h) (cu : ConfigurationsHold setup (goes_to t h.after)) (onward : Onward t (goes_to t h.after)) where
-
   abbrev u : Moment
   u = goes_to t h.after
 
@@ -95,6 +94,7 @@ module _ (tests : Tests) (setup : Deployment) (t : Moment) (event : Event) (h : 
           holds_now c name x r.some e (subst (λ xs. StandsIn x xs) rows s)
       entered e (inr f) (inl a) = holds_now c name x r.some e (subst (λ xs. StandsIn x xs) (turn.before.transfer.once c entries (entries_of e.new.rows) a f.initial) s)
       entered e (inr f) (inr a) = not_both c a.leading (entries_of e.new.rows, f.initial)
+
       by : Initial t c entries ⊎ LeadsWith t u c entries → Reached t c.epoch name ⊎ Enters t u c name → Held u c.epoch name x
       by (inl a) (inl k) = held-on t u c.epoch name x onward (turn.before.transfer.at_least c name entries x a m k s)
       by (inr a) (inl k) = not_both c a.leading (turn.before.transfer.reached_has_initial c name a.leading.stored m k)
@@ -113,6 +113,7 @@ module _ (tests : Tests) (setup : Deployment) (t : Moment) (event : Event) (h : 
             initial = i;
             held = turn.before.transfer.at_least c c.leader (entries_of e.new.rows) x f.initial (leads_member setup t turn.before.configurations c f.stored) (turn.before.transfer.leader_reached c i) k;
           })
+
       by : Held t c.epoch name x ⊎ Gains tests t u c name x → Listed u c x
       by (inl k) =
           let r : Reached t c.epoch name = record { node = k.node; was = k.was; some = k.some } in

@@ -43,9 +43,9 @@ joined size all (p ∷ ps) from one up each =
     let least : from ≤ p.number = mine.0 in
     let is : p.number ≡ from = omega (arith, most, least) in
     let rest : rows_of ps ≡ take (size * length ps) (drop (size * (from + 1 - 1)) all) = joined size all ps (from + 1) (omega arith) (tail-ascends (λ (p : Piece). p.number) p ps up)
-          (λ q s. let h = each q (inr s) in let a : p.number < q.number = tail-above (λ (p : Piece). p.number) p ps q up s in (omega (arith, a, is), omega (arith, h.1), h.2)) in
+    (λ q s. let h = each q (inr s) in let a : p.number < q.number = tail-above (λ (p : Piece). p.number) p ps q up s in (omega (arith, a, is), omega (arith, h.1), h.2)) in
     let there : drop (size * (from + 1 - 1)) all ≡ drop size (drop (size * (from - 1)) all)
-        = ap (λ k. drop k all) (let e : from + 1 - 1 ≡ from - 1 + 1 = omega (arith, one) in ap (λ k. size * k) e ∙ times size (from - 1)) ∙ sym (drop-drop size (size * (from - 1)) all) in
+    = ap (λ k. drop k all) (let e : from + 1 - 1 ≡ from - 1 + 1 = omega (arith, one) in ap (λ k. size * k) e ∙ times size (from - 1)) ∙ sym (drop-drop size (size * (from - 1)) all) in
     let head : p.rows ≡ take size (drop (size * (from - 1)) all) = mine.2 ∙ ap (λ n. take size (drop (size * (n - 1)) all)) is in
     rw (head, rest, there) (sym (ap (λ n. take n (drop (size * (from - 1)) all)) (omega arith) ∙ take-add size (size * length ps) (drop (size * (from - 1)) all)))
 

@@ -82,6 +82,7 @@ enters_it setup t u onward cu c new s n m e f = go f.how
   where
     shard : new.shard ≡ c.shard
     shard = member_shard setup u cu c new s n m
+
     go : LeadsAs t u f.config new ⊎ Following t u f.config new → LeadsAs t u c new ⊎ Following t u c new
     go (inl l) =
         let is : f.config ≡ c = one_config setup u cu f.config c (onward.stored f.config l.leading.stored) s (l.leading.shard ∙ (sym (ap (λ (x : NodeRecord). x.shard) l.is) ∙ shard)) (sym (ap (λ (x : NodeRecord). x.state) l.is) ∙ e) in
@@ -110,6 +111,7 @@ reached_how tests setup t event h turn cu onward c name s m r = elim (reached-ba
       state = i.in_epoch;
       how = enters_it setup t (goes_to t h.after) onward cu c i.node s i.is (subst (λ k. StandsIn k c.members) (sym i.named) m) i.in_epoch (subst (λ (x : NodeRecord). EntersAs t (goes_to t h.after) x) (sym o.is) f);
     })
+
     is_in : (i : IsIn (goes_to t h.after) c.epoch name) → IsNode t i.node ⊎ IsOfActing tests setup t event h i.node → Reached t c.epoch name ⊎ Enters t (goes_to t h.after) c name
     is_in i (inl n) = inl (record { node = i.node; was = is_in-now t c.epoch name i.node n i.named i.in_epoch; some = r.some })
     is_in i (inr o) = acted i o (enters tests setup t event h turn o.acting)

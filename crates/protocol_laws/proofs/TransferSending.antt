@@ -129,10 +129,10 @@ sending_by tests version node input out (Appends from epoch txn shards part lead
 sending_by tests version node input out (Votes from shard epoch entry case part view opened at leads fits coordinator goes) dest m s =
     elim (goes_on-says node.coordinator entry.txn _ (accept (first_entry part.entry entry) part.acks (Some view)) coordinator goes (to dest m) s) [
       | inl a ↦ (let k : AsksIn (Some view) (first_entry part.entry entry) (to dest m) = accept-says (first_entry part.entry entry) part.acks (Some view) (to dest m) a in
-        let same : view ≡ k.config = cc k.sees in
-        subst (λ (q : Message). Sending node (Deliver from (PrepareAck shard epoch entry)) (record node { coordinator = coordinator.kept }) dest q) (ap (λ (v : Membership). Accept v.epoch (first_entry part.entry entry)) same ∙ sym k.is)
-        (AsksVoted view (first_entry part.entry entry) (subst (λ (v : Membership). StandsIn dest (followers v)) (sym same) k.follower)
-        (record { from = from; shard = shard; answered = entry; case = case; part = part; delivers = ap (λ n. Deliver from (PrepareAck shard n entry)) (sym at); is_open = opened; is = refl })))
+          let same : view ≡ k.config = cc k.sees in
+          subst (λ (q : Message). Sending node (Deliver from (PrepareAck shard epoch entry)) (record node { coordinator = coordinator.kept }) dest q) (ap (λ (v : Membership). Accept v.epoch (first_entry part.entry entry)) same ∙ sym k.is)
+          (AsksVoted view (first_entry part.entry entry) (subst (λ (v : Membership). StandsIn dest (followers v)) (sym same) k.follower)
+          (record { from = from; shard = shard; answered = entry; case = case; part = part; delivers = ap (λ n. Deliver from (PrepareAck shard n entry)) (sym at); is_open = opened; is = refl })))
       | inr b ↦ Says m b
     ]
 sending_by tests version node input out (Acknowledges from shard epoch slot txn case part view opened at follows voted coordinator goes) dest m s = elim (goes_on-says node.coordinator txn _ [] coordinator goes (to dest m) s) [

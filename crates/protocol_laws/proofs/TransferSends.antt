@@ -160,7 +160,7 @@ pub ask_leader-says : (c : Coordinator) (config : Membership) → SayNothing (as
 unfolding ask_leader
 ask_leader-says c config o s =
     let r : IsFrom (λ (e : TxId × Case). prepare (length c.views) e.0 e.1 (Some config)) (filter (λ (e : TxId × Case). has_part e.1 config.shard) c.cases) o
-        = flat_map-StandsIn (λ (e : TxId × Case). prepare (length c.views) e.0 e.1 (Some config)) (filter (λ (e : TxId × Case). has_part e.1 config.shard) c.cases) o s in
+    = flat_map-StandsIn (λ (e : TxId × Case). prepare (length c.views) e.0 e.1 (Some config)) (filter (λ (e : TxId × Case). has_part e.1 config.shard) c.cases) o s in
     prepare-says (length c.views) r.from.0 r.from.1 (Some config) o r.is
 
 pub probe-says : (epoch : ℕ) (members : List ℕ) → SayNothing (probe epoch members)
@@ -236,7 +236,7 @@ state-says version config rows node o s = by (version == 2) s
     by : (b : Bool) → StandsIn o (when b (map (λ k. to node (StatePiece config k (piece_count rows) (piece_of rows k))) (range_with_len 1 (piece_count rows))) (to node (NewState config rows) ∷ [])) → (o.message ≡ NewState config rows) ⊎ IsPieceOf config rows o
     by true s =
         let m : IsMapped (λ k. to node (StatePiece config k (piece_count rows) (piece_of rows k))) (range_with_len 1 (piece_count rows)) o
-            = map-StandsIn (λ k. to node (StatePiece config k (piece_count rows) (piece_of rows k))) (range_with_len 1 (piece_count rows)) o s in
+        = map-StandsIn (λ k. to node (StatePiece config k (piece_count rows) (piece_of rows k))) (range_with_len 1 (piece_count rows)) o s in
         let w = range-within 1 (piece_count rows) m.from m.there in
         inr (record { number = m.from; some = w.0; few = omega (arith, w.1); is = ap (λ (q : Outgoing). q.message) m.is })
     by false (inl e) = inl (ap (λ (q : Outgoing). q.message) e)

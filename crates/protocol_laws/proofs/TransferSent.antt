@@ -77,7 +77,6 @@ piece_by node input new dest c number pieces rows (Says m h) = absurd h
 piece_by node input new dest c number pieces rows (SendsPiece b n some few) = record { leads = b; is = refl; some = some; few = few; count = refl; piece = refl }
 
 module _ (tests : Tests) (setup : Deployment) (t : Moment) (event : Event) (h : Happening) (turn : Turn tests setup t event h) (onward : Onward t (goes_to t h.after)) where
-
   -- who becomes leader of a configuration
   record Leads (a : Acting tests setup t event h) (c : Membership) : Type 0 where
     leading : Leading t (goes_to t h.after) c
@@ -93,8 +92,8 @@ module _ (tests : Tests) (setup : Deployment) (t : Moment) (event : Event) (h : 
   whole_then from dest c rows s = elim (sent_how tests setup t event h turn from dest (NewState c rows) (λ x. x) s) [
     | inl k ↦ initial-on t (goes_to t h.after) c (entries_of rows) onward (turn.before.transfer.whole from dest c rows k)
     | inr k ↦ (let w : WholeBy k.acting.node k.acting.input k.acting.out.kept c rows = whole_by k.acting.node k.acting.input k.acting.out.kept dest c rows k.why in
-      let l : Leads k.acting c = leads k.acting w.leads c w.is in
-      subst (λ xs. Initial (goes_to t h.after) c (entries_of xs)) (sym l.rows ∙ w.all) (initial_now t h.after c onward l.leading))
+        let l : Leads k.acting c = leads k.acting w.leads c w.is in
+        subst (λ xs. Initial (goes_to t h.after) c (entries_of xs)) (sym l.rows ∙ w.all) (initial_now t h.after c onward l.leading))
   ]
 
   -- where the leader became leader now, it cut the pieces
@@ -118,16 +117,19 @@ module _ (tests : Tests) (setup : Deployment) (t : Moment) (event : Event) (h : 
   pieces_then from dest number pieces c rows s = elim (sent_how tests setup t event h turn from dest (StatePiece c number pieces rows) (λ x. x) s) [
     | inl k ↦ pieces_on (turn.before.transfer.pieces from dest number pieces c rows k)
     | inr k ↦ (let p : PieceBy k.acting.node k.acting.input k.acting.out.kept c number pieces rows = piece_by k.acting.node k.acting.input k.acting.out.kept dest c number pieces rows k.why in
-      let l : Leads k.acting c = leads k.acting p.leads c p.is in
-      (l.leading.node.rows, pieces_now c l.leading))
+        let l : Leads k.acting c = leads k.acting p.leads c p.is in
+        (l.leading.node.rows, pieces_now c l.leading))
   ]
     where
       pieces_on : (all : List Row) × IsSentInPieces t c all → (all : List Row) × IsSentInPieces (goes_to t h.after) c all
-      pieces_on (all, k) = (all, record {
-        initial = initial-on t (goes_to t h.after) c (entries_of all) onward k.initial;
-        pieces = λ from dest number pieces rows s. elim (sent_how tests setup t event h turn from dest (StatePiece c number pieces rows) (λ x. x) s) [
-          | inl old ↦ k.pieces from dest number pieces rows old
-          | inr new ↦ absurd (let p : PieceBy new.acting.node new.acting.input new.acting.out.kept c number pieces rows = piece_by new.acting.node new.acting.input new.acting.out.kept dest c number pieces rows new.why in
-            no_initial tests setup t event h turn c (leads new.acting p.leads c p.is).leading (entries_of all, k.initial))
-        ];
-      })
+      pieces_on (all, k) = (
+        all,
+        record {
+          initial = initial-on t (goes_to t h.after) c (entries_of all) onward k.initial;
+          pieces = λ from dest number pieces rows s. elim (sent_how tests setup t event h turn from dest (StatePiece c number pieces rows) (λ x. x) s) [
+            | inl old ↦ k.pieces from dest number pieces rows old
+            | inr new ↦ absurd (let p : PieceBy new.acting.node new.acting.input new.acting.out.kept c number pieces rows = piece_by new.acting.node new.acting.input new.acting.out.kept dest c number pieces rows new.why in
+                no_initial tests setup t event h turn c (leads new.acting p.leads c p.is).leading (entries_of all, k.initial))
+          ];
+        },
+      )

@@ -1,0 +1,115 @@
+-- One event keeps the cases of each node.
+use Rattle.std.proofs.Common.{◌≡◌, ℕ, ◌+◌, ◌<◌, ◌≤◌, Bool, true, false, ◌==◌, List, [], ◌∷◌, map, Option, Some, None, ◌⊎◌, inl, inr, sym, ◌∙◌, ap, subst, refl, arith, eqb-true}
+use Rattle.std.specs.Prelude.{IsTrue}
+use Rattle.std.specs.Map.{lookup}
+use Rattle.tcs_terms.specs.declared.ids.TxId.{TxId}
+use Rattle.tcs_terms.specs.declared.inputs.Event.{Event}
+use Rattle.tcs_terms.specs.declared.inputs.Input.{Input}
+use Rattle.tcs_terms.specs.declared.inputs.Input.TheVariants.{Deliver}
+use Rattle.tcs_terms.specs.declared.messages.Message.TheVariants.{PrepareAck, AcceptAck}
+use Rattle.tcs_terms.specs.declared.messages.Outgoing.{Outgoing}
+use Rattle.tcs_terms.specs.Logs.{txns_differ}
+use Rattle.tcs_terms.specs.Places.{Membership}
+use Rattle.tcs_terms.specs.Preparations.{Preparation}
+use Rattle.tcs_terms.specs.Setups.{Deployment}
+use Rattle.tcs_laws.specs.Certification.{Tests}
+use Rattle.protocol.specs.ClientRules.{next_txn}
+use Rattle.protocol.specs.Coordination.{first_entry, voted, acknowledged, with_part}
+use Rattle.protocol.specs.Invariant.Configurations.{ConfigurationsHold}
+use Rattle.protocol.specs.Invariant.Entries.{HeldAt, PartHolds, CaseHolds}
+use Rattle.protocol.specs.Invariant.Logs.{Listed}
+use Rattle.protocol.specs.Invariant.Time.{Moment, goes_to, StandsIn, IsNode, WasSent}
+use Rattle.protocol.specs.Invariant.Transactions.{CaseFits}
+use Rattle.protocol.specs.Outcomes.{Out}
+use Rattle.protocol.specs.Records.{Part, Case, Coordinator, NodeRecord}
+use Rattle.protocol.specs.Views.{view_of}
+use Rattle.protocol.specs.World.{Happening}
+use Rattle.protocol.proofs.Lists.{find-StandsIn}
+use Rattle.protocol_laws.specs.Change.{Comes}
+use Rattle.protocol_laws.specs.Effect.{Effect, OpenPart, Sees}
+use Rattle.protocol_laws.specs.Effect.Effect.{Rests, Certifies, TakesOver, Votes, Acknowledges, Changes, Learns}
+use Rattle.protocol_laws.specs.Effect.Sees.{Replaces, Keeps}
+use Rattle.protocol_laws.specs.Turn.{Turn, Onward}
+use Rattle.protocol_laws.proofs.EntriesAnswered.{asked_listed, case-StandsIn}
+use Rattle.protocol_laws.proofs.EntriesCases.{CasesHold, cases-on, new_case-holds, begins-holds, goes_on-holds, with_part-holds, voted-holds, acknowledged-holds, change_view-holds}
+use Rattle.protocol_laws.proofs.EntriesKeyed.{keys, lookup-none-StandsIn}
+use Rattle.protocol_laws.proofs.Standing.{map-StandsIn, IsMapped}
+use Rattle.protocol_laws.proofs.TransferEvents.{node_back, IsOfActing, Acting}
+use Rattle.protocol_laws.proofs.TransferGathering.{delivered}
+use Rattle.protocol_laws.proofs.TransferSending.{VotesNow}
+
+-- the part that an answer is about, and its view
+record PartOpen (t : Moment) (c : Coordinator) (txn : TxId) (case : Case) (part : Part) (view : Membership) : Type 0 where
+  case_holds : CaseHolds t c.views txn case
+  part_holds : PartHolds t txn (view_of c.views part.shard) part.entry part.acks
+  sees : view_of c.views part.shard ≡ Some view
+
+part_open : (t : Moment) (c : Coordinator) (txn : TxId) (shard : ℕ) (case : Case) (part : Part) (view : Membership) → CasesHold t c → OpenPart c txn shard case part view → PartOpen t c txn case part view
+part_open t c txn shard case part view h o =
+    let k : CaseHolds t c.views txn case = h.each txn case (case-StandsIn txn c.cases case o.opened) in
+    let f = find-StandsIn (λ (p : Part). p.shard == shard) case.parts part o.has in
+    record { case_holds = k; part_holds = k.parts part f.0; sees = ap (λ s. view_of c.views s) (eqb-true part.shard shard f.1) ∙ o.sees }
+
+-- what cases rest on, at the moment of an event
+record Ready (t : Moment) (node : NodeRecord) (input : Input) : Type 0 where
+  cases : CasesHold t node.coordinator
+  fresh : StandsIn (next_txn node) (keys node.coordinator.cases) → ⊥
+  votes : (view : Membership) (x : Preparation) → VotesNow node input view x → Listed t view x
+  acks : (from shard epoch slot : ℕ) (txn : TxId) → input ≡ Deliver from (AcceptAck shard epoch slot txn) → HeldAt t epoch from slot txn
+
+cases_by : (tests : Tests) (version : ℕ) (t : Moment) (node : NodeRecord) (input : Input) (out : Out NodeRecord) → Effect tests version node input out → Ready t node input → CasesHold t out.kept.coordinator
+cases_by tests version t node input out (Certifies payload l case e) r =
+    begins-holds t node.coordinator (next_txn node) case r.cases (subst (λ (c : Case). CaseHolds t node.coordinator.views (next_txn node) c) (sym e) (new_case-holds t node.coordinator.views (next_txn node) _ _)) r.fresh
+cases_by tests version t node input out (TakesOver txn row found unknown none may case e) r =
+    begins-holds t node.coordinator txn case r.cases (subst (λ (c : Case). CaseHolds t node.coordinator.views txn c) (sym e) (new_case-holds t node.coordinator.views txn _ _)) (lookup-none-StandsIn txn node.coordinator.cases none)
+cases_by tests version t node input out (Votes from shard epoch entry case part view opened at leads fits coordinator goes) r =
+    let p : PartOpen t node.coordinator entry.txn case part view = part_open t node.coordinator entry.txn shard case part view r.cases opened in
+    let listed : Listed t view (first_entry part.entry entry) = r.votes view (first_entry part.entry entry)
+    (record { from = from; shard = shard; answered = entry; case = case; part = part; delivers = ap (λ n. Deliver from (PrepareAck shard n entry)) (sym at); is_open = opened; is = refl }) in
+    goes_on-holds t node.coordinator entry.txn _ _ coordinator r.cases
+    (with_part-holds t node.coordinator.views entry.txn case (voted part entry) p.case_holds (voted-holds t entry.txn view (view_of node.coordinator.views part.shard) part.entry part.acks entry p.sees p.part_holds listed refl)) goes
+cases_by tests version t node input out (Acknowledges from shard epoch slot txn case part view opened at follows votes coordinator goes) r =
+    let p : PartOpen t node.coordinator txn case part view = part_open t node.coordinator txn shard case part view r.cases opened in
+    let held : HeldAt t view.epoch from slot txn = subst (λ n. HeldAt t n from slot txn) (sym at) (r.acks from shard epoch slot txn refl) in
+    goes_on-holds t node.coordinator txn _ _ coordinator r.cases
+    (with_part-holds t node.coordinator.views txn case (acknowledged part from) p.case_holds (acknowledged-holds t txn view (view_of node.coordinator.views part.shard) part.entry part.acks from slot p.sees p.part_holds votes held)) goes
+cases_by tests version t node input out (Changes from config newer) r = change_view-holds t node.coordinator config r.cases
+cases_by tests version t node input out (Learns from config coordinator sent stage asked sees hears) r = sees-holds coordinator sent sees
+  where
+    sees-holds : (new : Coordinator) (os : List Outgoing) → Sees node.coordinator config new os → CasesHold t new
+    sees-holds new os (Replaces n) = change_view-holds t node.coordinator config r.cases
+    sees-holds new os (Keeps n) = r.cases
+cases_by tests version t node input out (Rests i answer notices n) r = r.cases
+cases_by tests version t node input out _ r = r.cases
+
+module _ (tests : Tests) (setup : Deployment) (t : Moment) (event : Event) (h : Happening) (turn : Turn tests setup t event h) (cu : ConfigurationsHold setup (goes_to t h.after)) (onward : Onward t (goes_to t h.after)) where
+  abbrev u : Moment
+  u = goes_to t h.after
+
+  -- the cases of a node before the event
+  before : (node : NodeRecord) → IsNode t node → CasesHold t node.coordinator
+  before node n = record { each = λ txn case s. turn.before.entries.cases node txn case n s; one = turn.before.entries.one_case node n }
+
+  -- a node has no case of the number that it gives next
+  not_yet : (node : NodeRecord) → IsNode t node → StandsIn (next_txn node) (keys node.coordinator.cases) → ⊥
+  not_yet node n s =
+      let m : IsMapped (λ (e : TxId × Case). e.0) node.coordinator.cases (next_txn node) = map-StandsIn (λ (e : TxId × Case). e.0) node.coordinator.cases (next_txn node) s in
+      let fits : CaseFits setup.shards t m.from.0 m.from.1 = turn.before.transactions.cases node m.from.0 m.from.1 n m.there in
+      let low : m.from.0.seq < node.next = fits.begun.given node n (ap (λ (x : TxId). x.home) m.is) in
+      let e : node.next ≡ m.from.0.seq = ap (λ (x : TxId). x.seq) m.is in
+      omega (arith, low, e)
+
+  ready : (a : Acting tests setup t event h) → Ready t a.node a.input
+  ready a = record {
+    cases = before a.node a.is;
+    fresh = not_yet a.node a.is;
+    votes = λ view x v. (asked_listed tests setup t event h turn cu onward a view x (inl v)).1;
+    acks = λ from shard epoch slot txn e. turn.before.entries.acknowledged from a.node.name shard epoch slot txn
+        (delivered setup t a.node.name event from (AcceptAck shard epoch slot txn) turn.fits (subst (λ (i : Input). Comes t.now a.node.name event i) e a.comes));
+  }
+
+  pub cases_then : (node : NodeRecord) → IsNode u node → CasesHold u node.coordinator
+  cases_then node n = elim (node_back tests setup t event h turn node n) [
+    | inl k ↦ cases-on t u onward node.coordinator (before node k)
+    | inr o ↦ cases-on t u onward node.coordinator (subst (λ (m : NodeRecord). CasesHold t m.coordinator) (sym o.is) (cases_by tests setup.version t o.acting.node o.acting.input o.acting.out o.acting.effect (ready o.acting)))
+  ]

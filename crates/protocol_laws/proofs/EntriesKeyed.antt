@@ -1,0 +1,96 @@
+-- Cases by transaction: what stands among them after one is set, removed or added.
+use Rattle.std.proofs.Common.{◌≡◌, Bool, true, false, cond, not, ◌&&◌, ◌||◌, List, [], ◌∷◌, ◌++◌, map, Option, Some, None, ◌⊎◌, inl, inr, sym, ◌∙◌, ap, subst, refl}
+use Rattle.std.specs.Map.{lookup, set_value, remove_entry}
+use Rattle.std.specs.List.{list_any}
+use Rattle.tcs_terms.specs.declared.ids.TxId.{TxId}
+use Rattle.tcs_terms.specs.Logs.{same_txn, txns_differ}
+use Rattle.tcs_terms.proofs.BoolLaws.{both, left_of, right_of, not_false}
+use Rattle.protocol.specs.Invariant.Time.{StandsIn}
+use Rattle.protocol_laws.proofs.TransferAscending.{same_txn-refl}
+use Rattle.protocol_laws.proofs.TransferSending.{same_txn-is}
+
+abbrev pub keys : {X : Type 0} → List (TxId × X) → List TxId
+keys es = map (λ e. e.0) es
+
+-- after one is set: an old one, or the new one
+pub set-StandsIn : {X : Type 0} (txn : TxId) (es : List (TxId × X)) (w : X) (k : TxId) (v : X) → StandsIn (k, v) (set_value (same_txn txn) es w) → StandsIn (k, v) es ⊎ ((k ≡ txn) × (v ≡ w))
+set-StandsIn txn [] w k v s = absurd s
+set-StandsIn {X} txn (e ∷ es) w k v s = go (same_txn txn e.0) refl s (set-StandsIn txn es w k v)
+  where
+    go : (b : Bool) → same_txn txn e.0 ≡ b → StandsIn (k, v) (cond b ((e.0, w) ∷ es) (e ∷ set_value (same_txn txn) es w)) → (StandsIn (k, v) (set_value (same_txn txn) es w) → StandsIn (k, v) es ⊎ ((k ≡ txn) × (v ≡ w))) → StandsIn (k, v) (e ∷ es) ⊎ ((k ≡ txn) × (v ≡ w))
+    go true f (inl p) ih = inr (ap (λ (q : TxId × X). q.0) p ∙ sym (same_txn-is txn e.0 f), ap (λ (q : TxId × X). q.1) p)
+    go true f (inr p) ih = inl (inr p)
+    go false f (inl p) ih = inl (inl p)
+    go false f (inr p) ih = elim (ih p) [ inl q ↦ inl (inr q) | inr q ↦ inr q ]
+
+pub set-keys : {X : Type 0} (txn : TxId) (es : List (TxId × X)) (w : X) → keys (set_value (same_txn txn) es w) ≡ keys es
+set-keys txn [] w = refl
+set-keys {X} txn (e ∷ es) w = go (same_txn txn e.0) (set-keys txn es w)
+  where
+    go : (b : Bool) → keys (set_value (same_txn txn) es w) ≡ keys es → keys (cond b ((e.0, w) ∷ es) (e ∷ set_value (same_txn txn) es w)) ≡ keys (e ∷ es)
+    go true ih = refl
+    go false ih = ap (λ ks. e.0 ∷ ks) ih
+
+-- after one is removed: an old one
+pub remove-StandsIn : {X : Type 0} (test : TxId → Bool) (es : List (TxId × X)) (x : TxId × X) → StandsIn x (remove_entry test es) → StandsIn x es
+remove-StandsIn test [] x s = absurd s
+remove-StandsIn {X} test (e ∷ es) x s = go (test e.0) s (remove-StandsIn test es x)
+  where
+    go : (b : Bool) → StandsIn x (cond b es (e ∷ remove_entry test es)) → (StandsIn x (remove_entry test es) → StandsIn x es) → StandsIn x (e ∷ es)
+    go true p ih = inr p
+    go false (inl p) ih = inl p
+    go false (inr p) ih = inr (ih p)
+
+none_removed : {X : Type 0} (test p : TxId → Bool) (es : List (TxId × X)) → list_any p (keys es) ≡ false → list_any p (keys (remove_entry test es)) ≡ false
+none_removed test p [] h = refl
+none_removed {X} test p (e ∷ es) h = go (test e.0) (p e.0) refl h (none_removed test p es)
+  where
+    go : (b v : Bool) → p e.0 ≡ v → (v || list_any p (keys es)) ≡ false → (list_any p (keys es) ≡ false → list_any p (keys (remove_entry test es)) ≡ false) → list_any p (keys (cond b es (e ∷ remove_entry test es))) ≡ false
+    go true true f k ih = absurd (cc k)
+    go true false f k ih = k
+    go false true f k ih = absurd (cc k)
+    go false false f k ih = rw f (ih k)
+
+pub remove-differ : {X : Type 0} (test : TxId → Bool) (es : List (TxId × X)) → txns_differ (keys es) ≡ true → txns_differ (keys (remove_entry test es)) ≡ true
+remove-differ test [] d = refl
+remove-differ {X} test (e ∷ es) d = go (test e.0) (remove-differ test es (right_of (not (list_any (same_txn e.0) (keys es))) (txns_differ (keys es)) d))
+  where
+    apart : not (list_any (same_txn e.0) (keys (remove_entry test es))) ≡ true
+    apart = ap not (none_removed test (same_txn e.0) es (not_false (list_any (same_txn e.0) (keys es)) (left_of (not (list_any (same_txn e.0) (keys es))) (txns_differ (keys es)) d)))
+
+    go : (b : Bool) → txns_differ (keys (remove_entry test es)) ≡ true → txns_differ (keys (cond b es (e ∷ remove_entry test es))) ≡ true
+    go true ih = right_of (not (list_any (same_txn e.0) (keys es))) (txns_differ (keys es)) d
+    go false ih = both (not (list_any (same_txn e.0) (keys (remove_entry test es)))) (txns_differ (keys (remove_entry test es))) apart ih
+
+none_added : (p : TxId → Bool) (ts : List TxId) (txn : TxId) → list_any p ts ≡ false → p txn ≡ false → list_any p (ts ++ txn ∷ []) ≡ false
+none_added p [] txn h e = rw e refl
+none_added p (t ∷ ts) txn h e = go (p t) refl h (none_added p ts txn)
+  where
+    go : (v : Bool) → p t ≡ v → (v || list_any p ts) ≡ false → (list_any p ts ≡ false → p txn ≡ false → list_any p (ts ++ txn ∷ []) ≡ false) → list_any p (t ∷ ts ++ txn ∷ []) ≡ false
+    go true f k ih = absurd (cc k)
+    go false f k ih = rw f (ih k e)
+
+not_same : (t txn : TxId) → (t ≡ txn → ⊥) → same_txn t txn ≡ false
+not_same t txn n = go (same_txn t txn) refl
+  where
+    go : (b : Bool) → same_txn t txn ≡ b → b ≡ false
+    go true e = absurd (n (same_txn-is t txn e))
+    go false e = refl
+
+-- transactions differ with a new one at the end
+pub added-differ : (ts : List TxId) (txn : TxId) → txns_differ ts ≡ true → (StandsIn txn ts → ⊥) → txns_differ (ts ++ txn ∷ []) ≡ true
+added-differ [] txn d n = refl
+added-differ (t ∷ ts) txn d n =
+    both (not (list_any (same_txn t) (ts ++ txn ∷ []))) (txns_differ (ts ++ txn ∷ []))
+    (ap not (none_added (same_txn t) ts txn (not_false (list_any (same_txn t) ts) (left_of (not (list_any (same_txn t) ts)) (txns_differ ts) d)) (not_same t txn (λ e. n (inl (sym e))))))
+    (added-differ ts txn (right_of (not (list_any (same_txn t) ts)) (txns_differ ts) d) (λ s. n (inr s)))
+
+-- where no case is found, none is there
+pub lookup-none-StandsIn : {X : Type 0} (txn : TxId) (es : List (TxId × X)) → lookup (same_txn txn) es ≡ None → StandsIn txn (keys es) → ⊥
+lookup-none-StandsIn txn [] h s = s
+lookup-none-StandsIn {X} txn (e ∷ es) h s = go (same_txn txn e.0) refl h s (lookup-none-StandsIn txn es)
+  where
+    go : (b : Bool) → same_txn txn e.0 ≡ b → cond b (Some e.1) (lookup (same_txn txn) es) ≡ None → (txn ≡ e.0) ⊎ StandsIn txn (keys es) → (lookup (same_txn txn) es ≡ None → StandsIn txn (keys es) → ⊥) → ⊥
+    go true f k p ih = cc k
+    go false f k (inl p) ih = let m : same_txn txn e.0 ≡ true = ap (λ u. same_txn txn u) (sym p) ∙ same_txn-refl txn in cc (f, m)
+    go false f k (inr p) ih = ih k p
