@@ -32,6 +32,8 @@ pub mod Orders
 pub mod CorrectOrder
 pub mod CorrectOf
 pub mod Runs
+pub mod AppendedBy
+pub mod FoundInRun
 pub mod EffectOf
 pub mod ServesOf
 pub mod ChangeOf
