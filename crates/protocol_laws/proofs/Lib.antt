@@ -34,6 +34,7 @@ pub mod CorrectOf
 pub mod Runs
 pub mod AppendedBy
 pub mod FoundInRun
+pub mod RunMoments
 pub mod EffectOf
 pub mod ServesOf
 pub mod ChangeOf
