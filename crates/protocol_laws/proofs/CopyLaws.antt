@@ -18,37 +18,21 @@ use Rattle.protocol.proofs.Moments.{time_after-now}
 use Rattle.protocol_laws.specs.Rising.{VersionsRise}
 use Rattle.protocol_laws.specs.Runs.{AreEvents, EventStands, HandInPayloads}
 use Rattle.protocol_laws.proofs.BegunFirst.{BegunFirst, begun_first}
+use Rattle.protocol_laws.proofs.CorrectOrder.{HaveFormed}
+use Rattle.protocol_laws.proofs.HistoryAt.{formed_at}
 use Rattle.protocol_laws.proofs.CopyTells.{TellsWritten}
-use Rattle.protocol_laws.proofs.HistoryKept.{ArePayloads, payload-begun}
 use Rattle.protocol_laws.proofs.HistoryLaws.{of_run, run_is_legal}
 use Rattle.protocol_laws.proofs.LegalOrder.{payloads-append, payloads-first}
 use Rattle.protocol_laws.proofs.OneCopyOf.{one_copy-of}
-use Rattle.protocol_laws.proofs.PayloadsKept.{IsFormed, payloads_kept}
-use Rattle.protocol_laws.proofs.RunInduction.{invariant_at, run_induction}
+use Rattle.protocol_laws.proofs.RunInduction.{invariant_at}
 use Rattle.protocol_laws.proofs.Standing.{StandsIn-right}
 use Rattle.protocol_laws.proofs.WritersRise.{IsLegal, rise-in-order}
-
-formed_event : (event : Event) → EventStands event → IsFormed event
-formed_event event s node payload e = subst EventStands e s
-
-starts_empty : (setup : Deployment) → ArePayloads (first_world setup).history
-unfolding first_world
-starts_empty setup = λ txn payload s. absurd s
-
--- whatever clients began are payloads
-payloads_at : (tests : Tests) (setup : Deployment) (events : List Event) → AreEvents setup events → HandInPayloads events → ArePayloads (time_after tests setup events).now.history
-payloads_at tests setup events a p =
-    run_induction tests setup EventStands (λ t. ArePayloads t.now.history)
-      (λ t event h turn after stands formed. payloads_kept tests setup.version t.now event h turn.change (formed_event event stands) formed)
-      (starts_empty setup) events a p
 
 -- the history of a run is legal, and its payloads are well formed
 legal_at : (tests : Tests) (setup : Deployment) (events : List Event) → IsLawful tests → AreEvents setup events → HandInPayloads events → IsLegal tests (run tests setup events).history
 legal_at tests setup events lawful a p = record {
   legal = run_is_legal tests setup events lawful a p;
-  payloads = λ txn q e.
-    let formed : ArePayloads (run tests setup events).history = of_run tests setup events ArePayloads (payloads_at tests setup events a p) in
-    formed (payload-begun (run tests setup events).history txn q e).0 q (payload-begun (run tests setup events).history txn q e).1;
+  payloads = of_run tests setup events HaveFormed (formed_at tests setup events a p);
 }
 
 pub run_versions_rise : (tests : Tests) (setup : Deployment) (events : List Event) → IsLawful tests → OrdersWrites tests → AreEvents setup events → HandInPayloads events → VersionsRise (run tests setup events).history

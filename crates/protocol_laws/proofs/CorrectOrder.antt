@@ -5,8 +5,9 @@ use Rattle.tcs_terms.specs.declared.ids.TxId.{TxId}
 use Rattle.tcs_terms.specs.declared.inputs.Note.{Note}
 use Rattle.tcs_terms.specs.declared.inputs.Note.TheVariants.{Decide}
 use Rattle.tcs_terms.specs.declared.votes.Decision.TheVariants.{Commit}
-use Rattle.tcs_terms.specs.Payloads.{Accesses}
+use Rattle.tcs_terms.specs.Payloads.{Accesses, IsPayload}
 use Rattle.tcs_laws.specs.Certification.{Tests}
+use Rattle.tcs_laws.specs.Laws.{IsLawful}
 use Rattle.protocol.specs.CorrectHistory.{passes_after, is_legal}
 use Rattle.protocol.specs.History.{payload_in, order_of, payloads_of}
 use Rattle.protocol.specs.Invariant.Time.{StandsIn}
@@ -43,9 +44,13 @@ payloads_of-among h (x ∷ xs) payload s = go (payload_in h x) refl s (payloads_
     go (Some p) e (inl q) ih = record { txn = x; among = inl refl; begun = e ∙ ap (λ z. Some z) (sym q) }
     go (Some p) e (inr s) ih = let r : IsPayloadOf h xs payload = ih s in record { txn = r.txn; among = inr r.among; begun = r.begun }
 
+-- the payloads of a history are well formed
+abbrev pub HaveFormed : List Note → Type 0
+HaveFormed h = (txn : TxId) (p : Accesses) → payload_in h txn ≡ Some p → IsPayload p
+
 -- one committed transaction passes against those before it
-legal_at : (tests : Tests) (n : ℕ) (h : List Note) (before : List TxId) (txn : TxId) → HistoryHolds tests n h → IsOrdered h before txn → passes_after tests (payloads_of h before) (payload_in h txn) ≡ true
-legal_at tests n h before txn holds o =
+legal_at : (tests : Tests) (n : ℕ) (h : List Note) (before : List TxId) (txn : TxId) → IsLawful tests → HaveFormed h → HistoryHolds tests n h → IsOrdered h before txn → passes_after tests (payloads_of h before) (payload_in h txn) ≡ true
+legal_at tests n h before txn lawful formed holds o =
     let d : DecisionStands tests n o.earlier txn Commit = holds.each o.earlier o.later txn Commit o.is in
     subst (λ p. passes_after tests (payloads_of h before) p ≡ true) (sym (whole d.payload txn d.begun))
     (all-from (λ old. tests.committed_ok old d.payload) (payloads_of h before) (λ old s. each d old (payloads_of-among h before old s)))
@@ -58,9 +63,9 @@ legal_at tests n h before txn holds o =
         let committed : StandsIn (Decide p.txn Commit) o.earlier = o.committed p.txn p.among in
         let b : BeganIn o.earlier p.txn = committed-began tests n h o.earlier (Decide txn Commit ∷ o.later) p.txn holds o.is committed in
         let same : b.payload ≡ old = cc (whole b.payload p.txn b.begun, p.begun) in
-        d.legal refl o.first p.txn old committed (b.begun ∙ ap (λ z. Some z) same)
+        d.legal lawful refl o.first p.txn old (formed p.txn old p.begun) committed (b.begun ∙ ap (λ z. Some z) same)
 
-pub history-legal : (tests : Tests) (n : ℕ) (h : List Note) → HistoryHolds tests n h → is_legal tests h ≡ true
-history-legal tests n h holds =
+pub history-legal : (tests : Tests) (n : ℕ) (h : List Note) → IsLawful tests → HaveFormed h → HistoryHolds tests n h → is_legal tests h ≡ true
+history-legal tests n h lawful formed holds =
     all-with_past (λ e. passes_after tests (payloads_of h e.0) (payload_in h e.1)) (order_of h)
-    (λ before txn after e. legal_at tests n h before txn holds (is_ordered h before txn after e))
+    (λ before txn after e. legal_at tests n h before txn lawful formed holds (is_ordered h before txn after e))

@@ -30,14 +30,15 @@ use Rattle.protocol_laws.proofs.PastKept.{WorldHolds, PastHolds}
 abbrev pub ArePayloads : List Note → Type 0
 ArePayloads h = (txn : TxId) (payload : Accesses) → StandsIn (Begin txn payload) h → IsPayload payload
 
--- What stands behind a decision, in the history before it: its transaction began, and all its decisions are equal; its
--- first commit passes against whatever committed before; a clash is named rightly; what is lost was taken over.
+-- What stands behind a decision, in the history before it: its transaction began, and all its decisions are equal; by a
+-- lawful certifier its first commit passes against each payload that committed before, and a clash is named rightly; what
+-- is lost was taken over.
 pub record DecisionStands (tests : Tests) (n : ℕ) (earlier : List Note) (txn : TxId) (decision : Decision) : Type 0 where
   pub payload : Accesses
   pub begun : payload_in earlier txn ≡ Some payload
   pub agrees : (other : Decision) → StandsIn (Decide txn other) earlier → other ≡ decision
-  pub legal : decision ≡ Commit → (StandsIn (Decide txn Commit) earlier → ⊥) → (other : TxId) (old : Accesses) → StandsIn (Decide other Commit) earlier → payload_in earlier other ≡ Some old → tests.committed_ok old payload ≡ true
-  pub clash : (shard : ℕ) (other : TxId) → decision ≡ Abort shard (Clash other) → NamesClash tests n earlier txn payload shard other
+  pub legal : IsLawful tests → decision ≡ Commit → (StandsIn (Decide txn Commit) earlier → ⊥) → (other : TxId) (old : Accesses) → IsPayload old → StandsIn (Decide other Commit) earlier → payload_in earlier other ≡ Some old → tests.committed_ok old payload ≡ true
+  pub clash : IsLawful tests → (shard : ℕ) (other : TxId) → decision ≡ Abort shard (Clash other) → NamesClash tests n earlier txn payload shard other
   pub lost : (shard : ℕ) → decision ≡ Abort shard Lost → StandsIn (Take txn) earlier
 
 -- such facts stand behind every decision
@@ -59,25 +60,24 @@ payload-begun (n ∷ ns) txn payload e = go n e (payload-begun ns txn payload)
     go (Decide other decision) e ih = let r : (other : TxId) × StandsIn (Begin other payload) ns = ih e in (r.0, inr r.1)
 
 -- a decision stands at the moment at which it is noted
-pub stands_now : (tests : Tests) (setup : Deployment) (t : Moment) (earlier : List Note) (txn : TxId) (decision : Decision) → IsDeployment setup → IsLawful tests → ArePayloads t.now.history
+pub stands_now : (tests : Tests) (setup : Deployment) (t : Moment) (earlier : List Note) (txn : TxId) (decision : Decision) → IsDeployment setup
     → DecidesNow tests setup t earlier txn decision → DecisionStands tests setup.shards earlier txn decision
-stands_now tests setup t earlier txn decision deployment lawful formed now =
+stands_now tests setup t earlier txn decision deployment now =
     let d : IsDecidedBy setup.shards t txn decision = now.holds.decisions.decided txn decision (now-noted tests setup t earlier txn decision now) in
     record {
       payload = d.payload;
       begun = sym (earlier-payload tests setup t earlier txn txn decision now) ∙ d.begun.first;
       agrees = λ other s. agreement tests setup t txn other decision now.holds (earlier-noted tests setup t earlier txn decision (Decide txn other) now s) (now-noted tests setup t earlier txn decision now);
-      legal = λ e first other old s b. legal d first other old s b (subst (λ x. DecidesNow tests setup t earlier txn x) e now);
-      clash = λ shard other e. clash_now tests setup t earlier txn other shard d.payload lawful (subst (λ x. DecidesNow tests setup t earlier txn x) e now) d.begun.first;
+      legal = λ lawful e first other old formed s b. legal d lawful first other old formed s b (subst (λ x. DecidesNow tests setup t earlier txn x) e now);
+      clash = λ lawful shard other e. clash_now tests setup t earlier txn other shard d.payload lawful (subst (λ x. DecidesNow tests setup t earlier txn x) e now) d.begun.first;
       lost = λ shard e. lost_now tests setup t earlier txn shard d.payload (subst (λ x. DecidesNow tests setup t earlier txn x) e now) d.begun.first;
     }
   where
-    legal : (d : IsDecidedBy setup.shards t txn decision) → (StandsIn (Decide txn Commit) earlier → ⊥) → (other : TxId) (old : Accesses) → StandsIn (Decide other Commit) earlier → payload_in earlier other ≡ Some old
+    legal : (d : IsDecidedBy setup.shards t txn decision) → IsLawful tests → (StandsIn (Decide txn Commit) earlier → ⊥) → (other : TxId) (old : Accesses) → IsPayload old → StandsIn (Decide other Commit) earlier → payload_in earlier other ≡ Some old
         → DecidesNow tests setup t earlier txn Commit → tests.committed_ok old d.payload ≡ true
-    legal d first other old s b n =
+    legal d lawful first other old formed s b n =
         let old_begun : payload_in t.now.history other ≡ Some old = earlier-payload tests setup t earlier txn other Commit n ∙ b in
-        let begin : (o : TxId) × StandsIn (Begin o old) t.now.history = payload-begun t.now.history other old old_begun in
-        legal_now tests setup t earlier txn other old d.payload deployment lawful n first s old_begun d.begun.first (formed begin.0 old begin.1)
+        legal_now tests setup t earlier txn other old d.payload deployment lawful n first s old_begun d.begun.first formed
 
 -- a note that is the last one, where at most one was added
 pub record IsLast (notes between : List Note) (n : Note) : Type 0 where
@@ -91,9 +91,9 @@ is_last notes [] n later (inr o) h = record { nothing = refl; only = let e : o.0
 is_last notes (b ∷ []) n later (inr o) h = absurd (cc (o.1, h))
 is_last notes (b ∷ c ∷ bs) n later (inr o) h = absurd (cc (o.1, h))
 
-pub history_kept : (tests : Tests) (setup : Deployment) (t : Moment) (event : Event) (h : Happening) → IsLawful tests → Turn tests setup t event h → InvariantHolds tests setup (goes_to t h.after)
-    → PastHolds setup t → PastHolds setup (goes_to t h.after) → ArePayloads h.after.history → HistoryHolds tests setup.shards t.now.history → HistoryHolds tests setup.shards h.after.history
-history_kept tests setup t event h lawful turn holds past_before past formed before =
+pub history_kept : (tests : Tests) (setup : Deployment) (t : Moment) (event : Event) (h : Happening) → Turn tests setup t event h → InvariantHolds tests setup (goes_to t h.after)
+    → PastHolds setup t → PastHolds setup (goes_to t h.after) → HistoryHolds tests setup.shards t.now.history → HistoryHolds tests setup.shards h.after.history
+history_kept tests setup t event h turn holds past_before past before =
     let g : GoesOnByOne t.now.history h.after.history = change-one tests setup.version t.now event h turn.change in
     record { each = λ earlier later txn decision e. go g earlier later txn decision (splits t.now.history g.notes earlier (Decide txn decision) later (sym g.is ∙ e)) }
   where
@@ -103,5 +103,5 @@ history_kept tests setup t event h lawful turn holds past_before past formed bef
         let l : IsLast g.notes between (Decide txn decision) = is_last g.notes between (Decide txn decision) later g.one f in
         let same : earlier ≡ t.now.history = e ∙ ap (λ b. t.now.history ++ b) l.nothing ∙ append-nil t.now.history in
         subst (λ x. DecisionStands tests setup.shards x txn decision) (sym same)
-        (stands_now tests setup (goes_to t h.after) t.now.history txn decision turn.deployment lawful formed
+        (stands_now tests setup (goes_to t h.after) t.now.history txn decision turn.deployment
         (record { holds = holds; past = past; fronts = λ w s. (past_before.each w s).front; history = g.is ∙ ap (λ b. t.now.history ++ b) l.only }))

@@ -31,7 +31,7 @@ pub mod CorrectNotes
 pub mod Orders
 pub mod CorrectOrder
 pub mod CorrectOf
-pub mod Runs
+pub mod HistoryAt
 pub mod AppendedBy
 pub mod FoundInRun
 pub mod RunMoments

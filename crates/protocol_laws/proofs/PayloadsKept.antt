@@ -1,5 +1,5 @@
 -- Whatever a client began is a payload, if it asked to certify payloads.
-use Rattle.std.proofs.Common.{◌≡◌, ℕ, List, [], ◌∷◌, ◌++◌, inl, inr, ◌⊎◌, sym, ap, refl}
+use Rattle.std.proofs.Common.{◌≡◌, ℕ, List, [], ◌∷◌, ◌++◌, inl, inr, ◌⊎◌, sym, ap, refl, subst}
 use Rattle.tcs_terms.specs.declared.ids.TxId.{TxId}
 use Rattle.tcs_terms.specs.declared.inputs.Event.{Event}
 use Rattle.tcs_terms.specs.declared.inputs.Event.TheVariants.{Call}
@@ -18,11 +18,8 @@ use Rattle.protocol.specs.World.{World, Happening}
 use Rattle.protocol.proofs.Lists.{StandsIn-append}
 use Rattle.protocol_laws.specs.Change.{Change, Passes, Stops, Acts, AtService, Comes, ByCall, ByMessage, Serves, HoldsBack, Tells, Stores}
 use Rattle.protocol_laws.specs.Effect.{GoesOn, Waiting, Decides, Effect, Rests, Certifies, TakesOver, Nudges, Moves, Lowers, Reads, Asks, AnswersAgain, Appends, Votes, Acknowledges, Changes, Learns, Keeps, Accepts, Marks, Promises, Chooses, FindsLow, Leads, Follows, Gathers, FollowsPieces}
+use Rattle.protocol_laws.specs.Runs.{EventStands}
 use Rattle.protocol_laws.proofs.HistoryKept.{ArePayloads}
-
--- an event in which a client asks to certify asks it of a payload
-abbrev pub IsFormed : Event → Type 0
-IsFormed event = (node : ℕ) (payload : Accesses) → event ≡ Call node (inputs.Certify payload) → IsPayload payload
 
 goes_on-begins : (c : Coordinator) (txn : TxId) (case : Case) (sends : List Outgoing) (out : Out Coordinator) (begun : TxId) (whole : Accesses) → GoesOn c txn case sends out → StandsIn (Begin begun whole) out.notes → ⊥
 goes_on-begins c txn case sends o begun whole (Waiting h) s = s
@@ -64,7 +61,7 @@ came : (w : World) (name : ℕ) (event : Event) (input : Input) (whole : Accesse
 came w name e i whole (ByCall input) h = ap (λ x. Call name x) (sym h)
 came w name e i whole (ByMessage number from message sent is found s) h = absurd (cc h)
 
-pub payloads_kept : (tests : Tests) (version : ℕ) (w : World) (event : Event) (h : Happening) → Change tests version w event h → IsFormed event → ArePayloads w.history → ArePayloads h.after.history
+pub payloads_kept : (tests : Tests) (version : ℕ) (w : World) (event : Event) (h : Happening) → Change tests version w event h → EventStands event → ArePayloads w.history → ArePayloads h.after.history
 payloads_kept tests version w e h (Passes event result a) formed p = p
 payloads_kept tests version w e h (Stops name) formed p = p
 payloads_kept tests version w e h (Acts event name node input out comes found s named up effect) formed p = go
@@ -72,7 +69,7 @@ payloads_kept tests version w e h (Acts event name node input out comes found s 
     go : (txn : TxId) (whole : Accesses) → StandsIn (Begin txn whole) (w.history ++ out.notes) → IsPayload whole
     go txn whole s = elim (StandsIn-append w.history out.notes (Begin txn whole) s) [
       | inl old ↦ p txn whole old
-      | inr new ↦ formed name whole (came w name event input whole comes (effect-begins tests version node input out txn whole effect new))
+      | inr new ↦ subst EventStands (came w name event input whole comes (effect-begins tests version node input out txn whole effect new)) formed
     ]
 payloads_kept tests version w e h (AtService number from message sent out is found s serves) formed p = go
   where
