@@ -30,9 +30,10 @@ use Rattle.protocol_laws.specs.Effect.{Effect, OpenPart, Sees}
 use Rattle.protocol_laws.specs.Effect.Effect.{Rests, Certifies, TakesOver, Votes, Acknowledges, Changes, Learns}
 use Rattle.protocol_laws.specs.Effect.Sees.{Replaces, Keeps}
 use Rattle.protocol_laws.specs.Turn.{Turn, Onward}
-use Rattle.protocol_laws.proofs.EntriesAnswered.{asked_listed, case-StandsIn}
+use Rattle.protocol_laws.proofs.EntriesAnswered.{asked_listed}
 use Rattle.protocol_laws.proofs.EntriesCases.{CasesHold, cases-on, new_case-holds, begins-holds, goes_on-holds, with_part-holds, voted-holds, acknowledged-holds, change_view-holds}
 use Rattle.protocol_laws.proofs.EntriesKeyed.{keys, lookup-none-StandsIn}
+use Rattle.protocol_laws.proofs.TransactionsLists.{lookup-StandsIn}
 use Rattle.protocol_laws.proofs.Standing.{map-StandsIn, IsMapped}
 use Rattle.protocol_laws.proofs.TransferEvents.{node_back, IsOfActing, Acting}
 use Rattle.protocol_laws.proofs.TransferGathering.{delivered}
@@ -46,7 +47,7 @@ record PartOpen (t : Moment) (c : Coordinator) (txn : TxId) (case : Case) (part 
 
 part_open : (t : Moment) (c : Coordinator) (txn : TxId) (shard : ℕ) (case : Case) (part : Part) (view : Membership) → CasesHold t c → OpenPart c txn shard case part view → PartOpen t c txn case part view
 part_open t c txn shard case part view h o =
-    let k : CaseHolds t c.views txn case = h.each txn case (case-StandsIn txn c.cases case o.opened) in
+    let k : CaseHolds t c.views txn case = h.each txn case (lookup-StandsIn txn c.cases case o.opened) in
     let f = find-StandsIn (λ (p : Part). p.shard == shard) case.parts part o.has in
     record { case_holds = k; part_holds = k.parts part f.0; sees = ap (λ s. view_of c.views s) (eqb-true part.shard shard f.1) ∙ o.sees }
 

@@ -6,8 +6,8 @@ use Rattle.tcs_terms.specs.declared.ids.TxId.{TxId}
 use Rattle.tcs_terms.specs.Logs.{same_txn, txns_differ}
 use Rattle.tcs_terms.proofs.BoolLaws.{both, left_of, right_of, not_false}
 use Rattle.protocol.specs.Invariant.Time.{StandsIn}
+use Rattle.protocol_laws.proofs.TransactionsLists.{same_txn-eq}
 use Rattle.protocol_laws.proofs.TransferAscending.{same_txn-refl}
-use Rattle.protocol_laws.proofs.TransferSending.{same_txn-is}
 
 abbrev pub keys : {X : Type 0} → List (TxId × X) → List TxId
 keys es = map (λ e. e.0) es
@@ -18,7 +18,7 @@ set-StandsIn txn [] w k v s = absurd s
 set-StandsIn {X} txn (e ∷ es) w k v s = go (same_txn txn e.0) refl s (set-StandsIn txn es w k v)
   where
     go : (b : Bool) → same_txn txn e.0 ≡ b → StandsIn (k, v) (cond b ((e.0, w) ∷ es) (e ∷ set_value (same_txn txn) es w)) → (StandsIn (k, v) (set_value (same_txn txn) es w) → StandsIn (k, v) es ⊎ ((k ≡ txn) × (v ≡ w))) → StandsIn (k, v) (e ∷ es) ⊎ ((k ≡ txn) × (v ≡ w))
-    go true f (inl p) ih = inr (ap (λ (q : TxId × X). q.0) p ∙ sym (same_txn-is txn e.0 f), ap (λ (q : TxId × X). q.1) p)
+    go true f (inl p) ih = inr (ap (λ (q : TxId × X). q.0) p ∙ sym (same_txn-eq txn e.0 f), ap (λ (q : TxId × X). q.1) p)
     go true f (inr p) ih = inl (inr p)
     go false f (inl p) ih = inl (inl p)
     go false f (inr p) ih = elim (ih p) [ inl q ↦ inl (inr q) | inr q ↦ inr q ]
@@ -74,7 +74,7 @@ not_same : (t txn : TxId) → (t ≡ txn → ⊥) → same_txn t txn ≡ false
 not_same t txn n = go (same_txn t txn) refl
   where
     go : (b : Bool) → same_txn t txn ≡ b → b ≡ false
-    go true e = absurd (n (same_txn-is t txn e))
+    go true e = absurd (n (same_txn-eq t txn e))
     go false e = refl
 
 -- transactions differ with a new one at the end

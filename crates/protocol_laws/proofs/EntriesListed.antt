@@ -18,7 +18,8 @@ use Rattle.protocol.specs.World.{Happening}
 use Rattle.protocol_laws.specs.Turn.{Turn, Onward}
 use Rattle.protocol_laws.proofs.Lasting.{is_in-now}
 use Rattle.protocol_laws.proofs.EntriesRows.{rows-slot, rows-txn}
-use Rattle.protocol_laws.proofs.TransferConfigs.{some_epoch, leads_member}
+use Rattle.protocol_laws.proofs.Stored.{stored-some}
+use Rattle.protocol_laws.proofs.TransferConfigs.{leads_member}
 use Rattle.protocol_laws.proofs.TransferEnters.{LeadsAs, Leading, Following}
 use Rattle.protocol_laws.proofs.TransferHandedOn.{leader_state}
 use Rattle.protocol_laws.proofs.TransferHeld.{Appending, Gains, held_how}
@@ -54,7 +55,7 @@ module _ (tests : Tests) (setup : Deployment) (t : Moment) (event : Event) (h : 
 
   -- a new leader is of an epoch above the first
   later_epoch : (c : Membership) → Leading t u c → 1 < c.epoch
-  later_epoch c l = by (eq-or-lt_of_le (some_epoch setup t turn.before.configurations c l.stored))
+  later_epoch c l = by (eq-or-lt_of_le (stored-some setup t c turn.before.configurations l.stored))
     where
       by : (1 ≡ c.epoch) ⊎ (1 < c.epoch) → 1 < c.epoch
       by (inl e) = absurd (no_initial tests setup t event h turn c l ([], record { stored = l.stored; begun = inl (sym e, refl) }))

@@ -28,7 +28,8 @@ use Rattle.protocol_laws.specs.Effect.Effect.{Rests, Leads, Follows, FollowsPiec
 use Rattle.protocol_laws.specs.Turn.{Turn, Onward}
 use Rattle.protocol_laws.proofs.Lasting.{IsIn, reached-back, is_in-now}
 use Rattle.protocol_laws.proofs.Standing.{StandsIn-left, StandsIn-right}
-use Rattle.protocol_laws.proofs.TransferConfigs.{one_config, some_epoch, member_shard, leads_member}
+use Rattle.protocol_laws.proofs.Stored.{one_config, stored-some}
+use Rattle.protocol_laws.proofs.TransferConfigs.{member_shard, leads_member}
 use Rattle.protocol_laws.proofs.TransferEvents.{node_back, IsOfActing, Acting, effect_name, effect_shard}
 use Rattle.protocol_laws.proofs.TransferGathering.{delivered, gathered, whole-Initial, IsGathered}
 use Rattle.tcs_terms.proofs.BoolLaws.{left_of}
@@ -145,7 +146,7 @@ leading_of tests setup t event h turn a b =
         promised = b.promised;
         leader = b.leader;
         stored = stored;
-        below = fenced_below a.node a.node.role b.config.epoch refl b.role (turn.before.promises.roles a.node a.is) b.promised (some_epoch setup t turn.before.configurations b.config stored);
+        below = fenced_below a.node a.node.role b.config.epoch refl b.role (turn.before.promises.roles a.node a.is) b.promised (stored-some setup t b.config turn.before.configurations stored);
         there = subst (λ (n : NodeRecord). IsNode (goes_to t h.after) n) b.is a.there;
       };
       is = b.is;

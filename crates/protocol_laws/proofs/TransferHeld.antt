@@ -28,22 +28,15 @@ use Rattle.protocol_laws.specs.Change.{Comes}
 use Rattle.protocol_laws.specs.Effect.{Effect, MayFollow}
 use Rattle.protocol_laws.specs.Effect.Effect.{Rests, Appends, Accepts, Marks, Follows, FollowsPieces}
 use Rattle.protocol_laws.specs.Turn.{Turn, Onward}
+use Rattle.protocol_laws.proofs.EntriesKept.{entries_of-marked}
 use Rattle.protocol_laws.proofs.Lasting.{HoldsNow, held-back, is_in-now}
 use Rattle.protocol_laws.proofs.Standing.{StandsIn-left, StandsIn-right, StandsIn-map, map-StandsIn, IsMapped, filter-StandsIn}
-use Rattle.protocol_laws.proofs.TransferConfigs.{one_config, some_epoch, member_shard}
+use Rattle.protocol_laws.proofs.Stored.{one_config, stored-some}
+use Rattle.protocol_laws.proofs.TransferConfigs.{member_shard}
 use Rattle.protocol_laws.proofs.TransferEvents.{node_back, IsOfActing, Acting, effect_name, effect_shard}
 use Rattle.protocol_laws.proofs.TransferEnters.{enters, EntersAs}
 use Rattle.protocol_laws.proofs.TransferGathering.{delivered}
 use Rattle.protocol_laws.proofs.TransferReached.{Enters, enters_it}
-
--- marks leave entries
-pub marked-entries : (rows : List Row) (slot : ℕ) (mark : Mark) → entries_of (marked rows slot mark) ≡ entries_of rows
-marked-entries [] slot mark = refl
-marked-entries (r ∷ rs) slot mark = go (r.entry.slot == slot) (marked-entries rs slot mark)
-  where
-    go : (b : Bool) → entries_of (marked rs slot mark) ≡ entries_of rs → (cond b (set_mark mark r) r).entry ∷ entries_of (marked rs slot mark) ≡ r.entry ∷ entries_of rs
-    go true ih = ap (λ xs. r.entry ∷ xs) ih
-    go false ih = ap (λ xs. r.entry ∷ xs) ih
 
 -- the entries of rows that pass a test are among those of all
 filtered-entries : (p : Row → Bool) (rows : List Row) (x : Preparation) → StandsIn x (entries_of (filter p rows)) → StandsIn x (entries_of rows)
@@ -100,7 +93,7 @@ entries_by tests version node input out (Accepts from epoch entry follows at tak
   | inl k ↦ inl k
   | inr e ↦ inr (inr (record { from = from; delivers = ap₂ (λ (n : ℕ) (y : Preparation). Deliver from (Accept n y)) (sym at) (sym e) }))
 ]
-entries_by tests version node input out (Marks from epoch slot txn commit l has) still x s = inl (subst (λ xs. StandsIn x xs) (marked-entries node.rows slot (mark_of commit)) s)
+entries_by tests version node input out (Marks from epoch slot txn commit l has) still x s = inl (subst (λ xs. StandsIn x xs) (entries_of-marked node.rows slot (mark_of commit)) s)
 entries_by tests version node input out (Follows from config rows v may) still x s = absurd (not_least node config may still)
 entries_by tests version node input out (FollowsPieces from config number pieces rows new v may takes e whole) still x s = absurd (not_least node config may still)
 entries_by tests version node input out (Rests i answer notices n) still x s = inl s
@@ -162,7 +155,7 @@ held_how tests setup t event h turn cu onward c name x s m held = elim (held-bac
     old_shard i o = sym (effect_shard tests setup.version o.acting.node o.acting.input o.acting.out o.acting.effect) ∙ (sym (ap (λ (n : NodeRecord). n.shard) o.is) ∙ member_shard setup (goes_to t h.after) cu c i.node s i.is (subst (λ k. StandsIn k c.members) (sym i.named) m))
 
     same : (d : Membership) → IsStored t d → d.shard ≡ c.shard → d.epoch ≡ c.epoch → d ≡ c
-    same d k e f = one_config setup (goes_to t h.after) cu d c (onward.stored d k) s e f
+    same d k e f = one_config setup (goes_to t h.after) d c cu (onward.stored d k) s e f
 
     appending : (i : HoldsNow (goes_to t h.after) c.epoch name x) (o : IsOfActing tests setup t event h i.node) (a : AppendsEntry tests o.acting.node o.acting.out.kept x) (d : Membership) → d ≡ c → o.acting.node.role ≡ Leader d → IsStored t d → IsOf o.acting.node d → d.leader ≡ o.acting.node.name
         → Gains tests t (goes_to t h.after) c name x
@@ -173,7 +166,7 @@ held_how tests setup t event h turn cu onward c name x s m held = elim (held-bac
       of = of;
       leader = leader;
       stored = stored;
-      some = some_epoch setup t turn.before.configurations d stored;
+      some = stored-some setup t d turn.before.configurations stored;
       txn = a.txn;
       shards = a.shards;
       part = a.part;

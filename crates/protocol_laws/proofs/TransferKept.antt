@@ -18,7 +18,8 @@ use Rattle.protocol.specs.World.{Happening}
 use Rattle.protocol_laws.specs.Turn.{Turn, Onward}
 use Rattle.protocol_laws.proofs.Lasting.{one_node, is_in-now, reached-on, held-on, initial-on, has_initial-on, listed-on}
 use Rattle.protocol_laws.proofs.OnwardOf.{onward_of}
-use Rattle.protocol_laws.proofs.TransferConfigs.{some_epoch, leads_member}
+use Rattle.protocol_laws.proofs.Stored.{stored-some}
+use Rattle.protocol_laws.proofs.TransferConfigs.{leads_member}
 use Rattle.protocol_laws.proofs.TransferEnters.{LeadsAs, Leading, Following}
 use Rattle.protocol_laws.proofs.TransferGathering.{kept_then, in_order_then}
 use Rattle.protocol_laws.proofs.TransferHandedOn.{handed_on_then}
@@ -60,7 +61,7 @@ module _ (tests : Tests) (setup : Deployment) (t : Moment) (event : Event) (h : 
       by (inr a) = record {
         node = record a.leading.node { role = Leader c; state = c.epoch };
         was = is_in-now u c.epoch c.leader (record a.leading.node { role = Leader c; state = c.epoch }) a.leading.there (sym a.leading.leader) refl;
-        some = some_epoch setup u cu c i.1.stored;
+        some = stored-some setup u c cu i.1.stored;
       }
 
   -- who enters a configuration sees its initial entries defined

@@ -20,7 +20,8 @@ use Rattle.protocol_laws.specs.Turn.{Turn, Onward, GrewTo}
 use Rattle.protocol_laws.proofs.Lasting.{IsIn, one_node, reached-back, is_in-now, initial-on}
 use Rattle.protocol_laws.proofs.Numbered.{AreNumbered}
 use Rattle.protocol_laws.proofs.Standing.{StandsIn-right, filter-StandsIn}
-use Rattle.protocol_laws.proofs.TransferConfigs.{one_config, some_epoch, member_shard, leads_member, next_above}
+use Rattle.protocol_laws.proofs.Stored.{one_config, stored-some}
+use Rattle.protocol_laws.proofs.TransferConfigs.{member_shard, leads_member, next_above}
 use Rattle.protocol_laws.proofs.TransferEvents.{node_back, config_back, IsNext, IsOfActing, Acting, effect_name}
 use Rattle.protocol_laws.proofs.TransferEnters.{enters, EntersAs, LeadsAs, Leading, Following}
 
@@ -85,10 +86,10 @@ enters_it setup t u onward cu c new s n m e f = go f.how
 
     go : LeadsAs t u f.config new ⊎ Following t u f.config new → LeadsAs t u c new ⊎ Following t u c new
     go (inl l) =
-        let is : f.config ≡ c = one_config setup u cu f.config c (onward.stored f.config l.leading.stored) s (l.leading.shard ∙ (sym (ap (λ (x : NodeRecord). x.shard) l.is) ∙ shard)) (sym (ap (λ (x : NodeRecord). x.state) l.is) ∙ e) in
+        let is : f.config ≡ c = one_config setup u f.config c cu (onward.stored f.config l.leading.stored) s (l.leading.shard ∙ (sym (ap (λ (x : NodeRecord). x.shard) l.is) ∙ shard)) (sym (ap (λ (x : NodeRecord). x.state) l.is) ∙ e) in
         inl (subst (λ (d : Membership). LeadsAs t u d new) is l)
     go (inr l) =
-        let is : f.config ≡ c = one_config setup u cu f.config c (onward.stored f.config l.stored) s (l.shard ∙ shard) (sym l.state ∙ e) in
+        let is : f.config ≡ c = one_config setup u f.config c cu (onward.stored f.config l.stored) s (l.shard ∙ shard) (sym l.state ∙ e) in
         inr (subst (λ (d : Membership). Following t u d new) is l)
 
 -- a member that reached a configuration reached it before, or enters it
