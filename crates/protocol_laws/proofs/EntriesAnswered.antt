@@ -27,13 +27,13 @@ use Rattle.protocol.proofs.Lists.{find-StandsIn}
 use Rattle.protocol_laws.specs.Change.{Comes}
 use Rattle.protocol_laws.specs.Effect.{OpenPart}
 use Rattle.protocol_laws.specs.Turn.{Turn, Onward, GrewFrom}
+use Rattle.protocol_laws.proofs.ConfigurationsInputs.{delivered}
 use Rattle.protocol_laws.proofs.Lasting.{is_in-now, held-on, has_initial-on, listed-on}
 use Rattle.protocol_laws.proofs.TransactionsLists.{lookup-StandsIn}
 use Rattle.protocol_laws.proofs.Standing.{StandsIn-left, StandsIn-right, filter-StandsIn}
 use Rattle.protocol_laws.proofs.Stored.{one_config, stored-some}
 use Rattle.protocol_laws.proofs.TransferConfigs.{member_shard}
 use Rattle.protocol_laws.proofs.TransferEvents.{Acting, effect_name}
-use Rattle.protocol_laws.proofs.TransferGathering.{delivered}
 use Rattle.protocol_laws.proofs.TransferHeld.{leads_it}
 use Rattle.protocol_laws.proofs.TransferSending.{Sending, VotesNow, HasEntry}
 use Rattle.protocol_laws.proofs.TransferSending.Sending.{Says, Answers, AsksVoted, AsksAgain, Holds}
@@ -161,7 +161,7 @@ module _ (tests : Tests) (setup : Deployment) (t : Moment) (event : Event) (h : 
 
       by : (o : Option Preparation) → v.part.entry ≡ o → IsStored t view × Listed t view x
       by None e =
-          let sent : WasSent t v.from a.node.name (PrepareAck v.shard view.epoch v.answered) = delivered setup t a.node.name event v.from (PrepareAck v.shard view.epoch v.answered) turn.fits (subst (λ (i : Input). Comes t.now a.node.name event i) v.delivers a.comes) in
+          let sent : WasSent t v.from a.node.name (PrepareAck v.shard view.epoch v.answered) = delivered setup t a.node.name event a.input a.comes turn.fits v.from (PrepareAck v.shard view.epoch v.answered) v.delivers in
           let l : ListedAt t v.shard view.epoch v.answered = turn.before.entries.answered v.from a.node.name v.shard view.epoch v.answered sent in
           let same : l.config ≡ view = one_config setup t l.config view turn.before.configurations l.stored stored.0 (l.of_shard ∙ sym stored.1) l.of_epoch in
           let is : v.answered ≡ x = sym (v.is ∙ ap (λ (o : Option Preparation). first_entry o v.answered) e) in

@@ -21,9 +21,10 @@ use Rattle.protocol_laws.specs.Effect.{GoesOn}
 use Rattle.protocol_laws.specs.Effect.GoesOn.{Waiting, Decides}
 use Rattle.protocol_laws.specs.Turn.{Onward}
 use Rattle.protocol_laws.proofs.Lasting.{listed-on}
+use Rattle.protocol_laws.proofs.TransactionsLists.{set_value-StandsIn, remove_entry-StandsIn}
 use Rattle.protocol_laws.proofs.Standing.{map-StandsIn, IsMapped}
 use Rattle.protocol_laws.proofs.EntriesAnswered.{held_at-on}
-use Rattle.protocol_laws.proofs.EntriesKeyed.{keys, set-StandsIn, set-keys, remove-StandsIn, remove-differ, added-differ}
+use Rattle.protocol_laws.proofs.EntriesKeyed.{keys, set-keys, remove-differ, added-differ}
 
 -- all cases of a coordinator hold, and there is one of a transaction
 pub record CasesHold (t : Moment) (c : Coordinator) : Type 0 where
@@ -70,14 +71,14 @@ begins-holds t c txn case h new none = record {
 -- cases hold after one of them went on
 pub goes_on-holds : (t : Moment) (c : Coordinator) (txn : TxId) (case : Case) (sends : List Outgoing) (out : Out Coordinator) → CasesHold t c → CaseHolds t c.views txn case → GoesOn c txn case sends out → CasesHold t out.kept
 goes_on-holds t c txn case sends out h new (Waiting w) = record {
-  each = λ k v s. (elim (set-StandsIn txn c.cases case k v s) [
+  each = λ k v s. (elim (set_value-StandsIn txn c.cases case (k, v) s) [
     | inl old ↦ h.each k v old
-    | inr e ↦ subst₂ (λ (a : TxId) (b : Case). CaseHolds t c.views a b) (sym e.0) (sym e.1) new
+    | inr e ↦ subst (λ (q : TxId × Case). CaseHolds t c.views q.0 q.1) (sym e) new
   ]);
   one = subst (λ ts. txns_differ ts ≡ true) (sym (set-keys txn c.cases case)) h.one;
 }
 goes_on-holds t c txn case sends out h new (Decides d) = record {
-  each = λ k v s. h.each k v (remove-StandsIn (same_txn txn) c.cases (k, v) s);
+  each = λ k v s. h.each k v (remove_entry-StandsIn txn c.cases (k, v) s);
   one = remove-differ (same_txn txn) c.cases h.one;
 }
 

@@ -30,13 +30,13 @@ use Rattle.protocol_laws.specs.Effect.{Effect, OpenPart, Sees}
 use Rattle.protocol_laws.specs.Effect.Effect.{Rests, Certifies, TakesOver, Votes, Acknowledges, Changes, Learns}
 use Rattle.protocol_laws.specs.Effect.Sees.{Replaces, Keeps}
 use Rattle.protocol_laws.specs.Turn.{Turn, Onward}
+use Rattle.protocol_laws.proofs.ConfigurationsInputs.{delivered}
 use Rattle.protocol_laws.proofs.EntriesAnswered.{asked_listed}
 use Rattle.protocol_laws.proofs.EntriesCases.{CasesHold, cases-on, new_case-holds, begins-holds, goes_on-holds, with_part-holds, voted-holds, acknowledged-holds, change_view-holds}
 use Rattle.protocol_laws.proofs.EntriesKeyed.{keys, lookup-none-StandsIn}
 use Rattle.protocol_laws.proofs.TransactionsLists.{lookup-StandsIn}
 use Rattle.protocol_laws.proofs.Standing.{map-StandsIn, IsMapped}
 use Rattle.protocol_laws.proofs.TransferEvents.{node_back, IsOfActing, Acting}
-use Rattle.protocol_laws.proofs.TransferGathering.{delivered}
 use Rattle.protocol_laws.proofs.TransferSending.{VotesNow}
 
 -- the part that an answer is about, and its view
@@ -106,7 +106,7 @@ module _ (tests : Tests) (setup : Deployment) (t : Moment) (event : Event) (h : 
     fresh = not_yet a.node a.is;
     votes = λ view x v. (asked_listed tests setup t event h turn cu onward a view x (inl v)).1;
     acks = λ from shard epoch slot txn e. turn.before.entries.acknowledged from a.node.name shard epoch slot txn
-        (delivered setup t a.node.name event from (AcceptAck shard epoch slot txn) turn.fits (subst (λ (i : Input). Comes t.now a.node.name event i) e a.comes));
+        (delivered setup t a.node.name event a.input a.comes turn.fits from (AcceptAck shard epoch slot txn) e);
   }
 
   pub cases_then : (node : NodeRecord) → IsNode u node → CasesHold u node.coordinator

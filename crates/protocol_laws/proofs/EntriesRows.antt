@@ -10,8 +10,9 @@ use Rattle.tcs_terms.proofs.BoolLaws.{left_of, right_of}
 use Rattle.protocol.specs.Invariant.Logs.{entries_of}
 use Rattle.protocol.specs.Invariant.Time.{StandsIn}
 use Rattle.protocol.specs.Log.{row_of, slot_or_zero, last_slot}
+use Rattle.protocol_laws.proofs.PromisesOrder.{same_txn-refl}
 use Rattle.protocol_laws.proofs.Standing.{map-StandsIn, IsMapped, find-none}
-use Rattle.protocol_laws.proofs.TransferAscending.{ascending-one, txns-one, same_txn-refl}
+use Rattle.protocol_laws.proofs.TransferAscending.{ascending-one, txns-one}
 
 abbrev slot_of : Row → ℕ
 slot_of r = r.entry.slot

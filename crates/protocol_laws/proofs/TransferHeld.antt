@@ -28,21 +28,16 @@ use Rattle.protocol_laws.specs.Change.{Comes}
 use Rattle.protocol_laws.specs.Effect.{Effect, MayFollow}
 use Rattle.protocol_laws.specs.Effect.Effect.{Rests, Appends, Accepts, Marks, Follows, FollowsPieces}
 use Rattle.protocol_laws.specs.Turn.{Turn, Onward}
+use Rattle.protocol_laws.proofs.ConfigurationsInputs.{delivered}
 use Rattle.protocol_laws.proofs.EntriesKept.{entries_of-marked}
 use Rattle.protocol_laws.proofs.Lasting.{HoldsNow, held-back, is_in-now}
+use Rattle.protocol_laws.proofs.PromisesOrder.{filtered-StandsIn}
 use Rattle.protocol_laws.proofs.Standing.{StandsIn-left, StandsIn-right, StandsIn-map, map-StandsIn, IsMapped, filter-StandsIn}
 use Rattle.protocol_laws.proofs.Stored.{one_config, stored-some}
 use Rattle.protocol_laws.proofs.TransferConfigs.{member_shard}
 use Rattle.protocol_laws.proofs.TransferEvents.{node_back, IsOfActing, Acting, effect_name, effect_shard}
 use Rattle.protocol_laws.proofs.TransferEnters.{enters, EntersAs}
-use Rattle.protocol_laws.proofs.TransferGathering.{delivered}
 use Rattle.protocol_laws.proofs.TransferReached.{Enters, enters_it}
-
--- the entries of rows that pass a test are among those of all
-filtered-entries : (p : Row → Bool) (rows : List Row) (x : Preparation) → StandsIn x (entries_of (filter p rows)) → StandsIn x (entries_of rows)
-filtered-entries p rows x s =
-    let m : IsMapped (λ (r : Row). r.entry) (filter p rows) x = map-StandsIn (λ (r : Row). r.entry) (filter p rows) x s in
-    subst (λ y. StandsIn y (entries_of rows)) (sym m.is) (StandsIn-map (λ (r : Row). r.entry) rows m.from (filter-StandsIn p rows m.from m.there).0)
 
 -- the entries of rows joined
 pub joined-entries : (xs ys : List Row) (x : Preparation) → StandsIn x (entries_of (xs ++ ys)) → StandsIn x (entries_of xs) ⊎ StandsIn x (entries_of ys)
@@ -55,9 +50,9 @@ pub accepted-StandsIn : (rows : List Row) (entry x : Preparation) → StandsIn x
 accepted-StandsIn rows entry x s = go (has_at rows entry.slot entry.txn) s
   where
     put : StandsIn x (entries_of (filter (λ (r : Row). nat_lt r.entry.slot entry.slot) rows)) ⊎ StandsIn x (entry ∷ entries_of (filter (λ (r : Row). nat_lt entry.slot r.entry.slot) rows)) → StandsIn x (entries_of rows) ⊎ (x ≡ entry)
-    put (inl k) = inl (filtered-entries (λ (r : Row). nat_lt r.entry.slot entry.slot) rows x k)
+    put (inl k) = inl (filtered-StandsIn (λ (r : Row). nat_lt r.entry.slot entry.slot) rows x k)
     put (inr (inl e)) = inr e
-    put (inr (inr k)) = inl (filtered-entries (λ (r : Row). nat_lt entry.slot r.entry.slot) rows x k)
+    put (inr (inr k)) = inl (filtered-StandsIn (λ (r : Row). nat_lt entry.slot r.entry.slot) rows x k)
 
     go : (b : Bool) → StandsIn x (entries_of (cond b rows (put_entry rows entry))) → StandsIn x (entries_of rows) ⊎ (x ≡ entry)
     go true k = inl k
@@ -182,7 +177,7 @@ held_how tests setup t event h turn cu onward c name x s m held = elim (held-bac
         let is : d.0 ≡ c = same d.0 d.2 (d.3.shard ∙ old_shard i o) (d.3.epoch ∙ e) in
         inr (appending i o a d.0 is d.1 d.2 d.3 d.4)
     stays i o e (inr (inr a)) =
-        let sent : WasSent t a.from o.acting.node.name (Accept o.acting.node.state x) = delivered setup t o.acting.node.name event a.from (Accept o.acting.node.state x) turn.fits (subst (λ (j : Input). Comes t.now o.acting.node.name event j) a.delivers o.acting.comes) in
+        let sent : WasSent t a.from o.acting.node.name (Accept o.acting.node.state x) = delivered setup t o.acting.node.name event o.acting.input o.acting.comes turn.fits a.from (Accept o.acting.node.state x) a.delivers in
         let l : ListedAt t o.acting.node.shard o.acting.node.state x = turn.before.entries.accepting a.from o.acting.node.state o.acting.node x o.acting.is sent in
         inr (AcceptsIt (subst (λ (y : Membership). Listed t y x) (same l.config l.stored (l.of_shard ∙ old_shard i o) (l.of_epoch ∙ e)) l.listed))
 
