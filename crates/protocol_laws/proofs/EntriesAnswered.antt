@@ -1,22 +1,18 @@
 -- What is answered, sent to be accepted and acknowledged is listed, or held, at the epoch that is stated.
-use Rattle.std.proofs.Common.{◌≡◌, ℕ, ◌≤◌, ◌<◌, Bool, true, false, cond, not, ◌==◌, List, [], ◌∷◌, ◌++◌, map, filter, find, Option, Some, None, ◌⊎◌, inl, inr, sym, ◌∙◌, ap, subst, subst₂, refl, arith, eqb-true}
-use Rattle.std.specs.Map.{lookup}
+use Rattle.std.proofs.Common.{◌≡◌, ℕ, ◌≤◌, true, not, ◌==◌, List, ◌++◌, Option, Some, None, ◌⊎◌, inl, inr, sym, ◌∙◌, ap, subst, subst₂, refl, eqb-true}
 use Rattle.tcs_terms.specs.declared.ids.TxId.{TxId}
 use Rattle.tcs_terms.specs.declared.inputs.Event.{Event}
 use Rattle.tcs_terms.specs.declared.inputs.Input.{Input}
-use Rattle.tcs_terms.specs.declared.inputs.Input.TheVariants.{Deliver}
 use Rattle.tcs_terms.specs.declared.messages.Message.TheVariants.{PrepareAck, Accept, AcceptAck}
-use Rattle.tcs_terms.specs.Logs.{same_txn}
 use Rattle.tcs_terms.specs.Places.{Membership}
 use Rattle.tcs_terms.specs.Preparations.{Preparation}
 use Rattle.tcs_terms.specs.Setups.{Deployment}
 use Rattle.tcs_laws.specs.Certification.{Tests}
-use Rattle.protocol.specs.Cases.{part_of}
-use Rattle.protocol.specs.Coordination.{case_of, first_entry}
+use Rattle.protocol.specs.Coordination.{first_entry}
 use Rattle.protocol.specs.Invariant.Configurations.{ConfigurationsHold, role_configs, probed_configs, gathered_configs}
 use Rattle.protocol.specs.Invariant.Entries.{ListedAt, HeldAt, PartHolds, CaseHolds}
-use Rattle.protocol.specs.Invariant.Logs.{entries_of, Reached, Held, HasInitial, Listed}
-use Rattle.protocol.specs.Invariant.Promises.{FitsRole, IsOf, PromisesHold}
+use Rattle.protocol.specs.Invariant.Logs.{entries_of, Reached, Listed}
+use Rattle.protocol.specs.Invariant.Promises.{FitsRole, PromisesHold}
 use Rattle.protocol.specs.Invariant.Time.{Moment, goes_to, StandsIn, IsNode, IsStored, WasSent}
 use Rattle.protocol.specs.Records.{Part, Case, Role, NodeRecord}
 use Rattle.protocol.specs.Records.Role.{Fenced, Leader, Follower}
@@ -24,8 +20,6 @@ use Rattle.protocol.specs.ShardRules.{is_leader, is_following}
 use Rattle.protocol.specs.Views.{view_of, followers}
 use Rattle.protocol.specs.World.{Happening}
 use Rattle.protocol.proofs.Lists.{find-StandsIn}
-use Rattle.protocol_laws.specs.Change.{Comes}
-use Rattle.protocol_laws.specs.Effect.{OpenPart}
 use Rattle.protocol_laws.specs.Turn.{Turn, Onward, GrewFrom}
 use Rattle.protocol_laws.proofs.ConfigurationsInputs.{delivered}
 use Rattle.protocol_laws.proofs.Lasting.{is_in-now, held-on, has_initial-on, listed-on}

@@ -1,7 +1,6 @@
 -- Cases stay well as a node coordinates: as they begin, as a shard votes and acknowledges, and as a view is replaced.
-use Rattle.std.proofs.Common.{◌≡◌, ℕ, Bool, true, false, cond, ◌==◌, List, [], ◌∷◌, ◌++◌, map, find, length, Option, Some, None, ◌⊎◌, inl, inr, sym, ◌∙◌, ap, ap₂, subst, subst₂, refl, eqb-true, eq-eqb}
+use Rattle.std.proofs.Common.{◌≡◌, ℕ, Bool, true, false, cond, ◌==◌, List, [], ◌∷◌, ◌++◌, map, find, Option, Some, None, ◌⊎◌, inl, inr, sym, ◌∙◌, ap, ap₂, subst, refl, eqb-true, eq-eqb}
 use Rattle.std.specs.Prelude.{IsTrue}
-use Rattle.std.specs.Map.{set_value, remove_entry}
 use Rattle.tcs_terms.specs.declared.ids.TxId.{TxId}
 use Rattle.tcs_terms.specs.declared.messages.Outgoing.{Outgoing}
 use Rattle.tcs_terms.specs.Logs.{same_txn, txns_differ}
@@ -9,7 +8,7 @@ use Rattle.tcs_terms.specs.Payloads.{Accesses}
 use Rattle.tcs_terms.specs.Places.{Membership, is_among}
 use Rattle.tcs_terms.specs.Preparations.{Preparation}
 use Rattle.protocol.specs.Cases.{asked, new_case, put_part}
-use Rattle.protocol.specs.Coordination.{begins, with_part, first_entry, voted, voted_at, acknowledged, add_once, ask_again, change_view}
+use Rattle.protocol.specs.Coordination.{begins, with_part, first_entry, voted_at, add_once, ask_again, change_view}
 use Rattle.protocol.specs.Invariant.Entries.{HeldAt, PartHolds, CaseHolds}
 use Rattle.protocol.specs.Invariant.Logs.{Listed}
 use Rattle.protocol.specs.Invariant.Time.{Moment, StandsIn}

@@ -1,31 +1,27 @@
 -- One event keeps the cases of each node.
-use Rattle.std.proofs.Common.{◌≡◌, ℕ, ◌+◌, ◌<◌, ◌≤◌, Bool, true, false, ◌==◌, List, [], ◌∷◌, map, Option, Some, None, ◌⊎◌, inl, inr, sym, ◌∙◌, ap, subst, refl, arith, eqb-true}
-use Rattle.std.specs.Prelude.{IsTrue}
-use Rattle.std.specs.Map.{lookup}
+use Rattle.std.proofs.Common.{◌≡◌, ℕ, ◌<◌, ◌==◌, List, Some, inl, inr, sym, ◌∙◌, ap, subst, refl, arith, eqb-true}
 use Rattle.tcs_terms.specs.declared.ids.TxId.{TxId}
 use Rattle.tcs_terms.specs.declared.inputs.Event.{Event}
 use Rattle.tcs_terms.specs.declared.inputs.Input.{Input}
 use Rattle.tcs_terms.specs.declared.inputs.Input.TheVariants.{Deliver}
 use Rattle.tcs_terms.specs.declared.messages.Message.TheVariants.{PrepareAck, AcceptAck}
 use Rattle.tcs_terms.specs.declared.messages.Outgoing.{Outgoing}
-use Rattle.tcs_terms.specs.Logs.{txns_differ}
 use Rattle.tcs_terms.specs.Places.{Membership}
 use Rattle.tcs_terms.specs.Preparations.{Preparation}
 use Rattle.tcs_terms.specs.Setups.{Deployment}
 use Rattle.tcs_laws.specs.Certification.{Tests}
 use Rattle.protocol.specs.ClientRules.{next_txn}
-use Rattle.protocol.specs.Coordination.{first_entry, voted, acknowledged, with_part}
+use Rattle.protocol.specs.Coordination.{first_entry, voted, acknowledged}
 use Rattle.protocol.specs.Invariant.Configurations.{ConfigurationsHold}
 use Rattle.protocol.specs.Invariant.Entries.{HeldAt, PartHolds, CaseHolds}
 use Rattle.protocol.specs.Invariant.Logs.{Listed}
-use Rattle.protocol.specs.Invariant.Time.{Moment, goes_to, StandsIn, IsNode, WasSent}
+use Rattle.protocol.specs.Invariant.Time.{Moment, goes_to, StandsIn, IsNode}
 use Rattle.protocol.specs.Invariant.Transactions.{CaseFits}
 use Rattle.protocol.specs.Outcomes.{Out}
 use Rattle.protocol.specs.Records.{Part, Case, Coordinator, NodeRecord}
 use Rattle.protocol.specs.Views.{view_of}
 use Rattle.protocol.specs.World.{Happening}
 use Rattle.protocol.proofs.Lists.{find-StandsIn}
-use Rattle.protocol_laws.specs.Change.{Comes}
 use Rattle.protocol_laws.specs.Effect.{Effect, OpenPart, Sees}
 use Rattle.protocol_laws.specs.Effect.Effect.{Rests, Certifies, TakesOver, Votes, Acknowledges, Changes, Learns}
 use Rattle.protocol_laws.specs.Effect.Sees.{Replaces, Keeps}
@@ -36,7 +32,7 @@ use Rattle.protocol_laws.proofs.EntriesCases.{CasesHold, cases-on, new_case-hold
 use Rattle.protocol_laws.proofs.EntriesKeyed.{keys, lookup-none-StandsIn}
 use Rattle.protocol_laws.proofs.TransactionsLists.{lookup-StandsIn}
 use Rattle.protocol_laws.proofs.Standing.{map-StandsIn, IsMapped}
-use Rattle.protocol_laws.proofs.TransferEvents.{node_back, IsOfActing, Acting}
+use Rattle.protocol_laws.proofs.TransferEvents.{node_back, Acting}
 use Rattle.protocol_laws.proofs.TransferSending.{VotesNow}
 
 -- the part that an answer is about, and its view

@@ -1,5 +1,5 @@
 -- Cases by transaction: what stands among them after one is set, removed or added.
-use Rattle.std.proofs.Common.{◌≡◌, Bool, true, false, cond, not, ◌&&◌, ◌||◌, List, [], ◌∷◌, ◌++◌, map, Option, Some, None, ◌⊎◌, inl, inr, sym, ◌∙◌, ap, subst, refl}
+use Rattle.std.proofs.Common.{◌≡◌, Bool, true, false, cond, not, ◌||◌, List, [], ◌∷◌, ◌++◌, map, Some, None, ◌⊎◌, inl, inr, sym, ◌∙◌, ap, refl}
 use Rattle.std.specs.Map.{lookup, set_value, remove_entry}
 use Rattle.std.specs.List.{list_any}
 use Rattle.tcs_terms.specs.declared.ids.TxId.{TxId}

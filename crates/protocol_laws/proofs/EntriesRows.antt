@@ -1,5 +1,5 @@
 -- Rows of a log: an entry is found by its slot, and by its transaction.
-use Rattle.std.proofs.Common.{◌≡◌, ℕ, ◌<◌, ◌≤◌, ◌==◌, Bool, true, false, nat_lt, List, [], ◌∷◌, ◌++◌, map, find, Option, Some, None, inl, inr, sym, ◌∙◌, ap, subst, refl, arith, ltb-true}
+use Rattle.std.proofs.Common.{◌≡◌, ℕ, ◌<◌, ◌≤◌, true, false, nat_lt, List, [], ◌∷◌, map, Some, None, inl, inr, sym, ◌∙◌, ap, subst, refl, arith, ltb-true}
 use Rattle.std.specs.List.{last_or}
 use Rattle.tcs_terms.specs.declared.ids.TxId.{TxId}
 use Rattle.tcs_terms.specs.declared.logs.Row.{Row}

@@ -1,10 +1,10 @@
 -- Lists whose keys ascend or differ: an element is found by its key.
-use Rattle.std.proofs.Common.{◌≡◌, ℕ, ◌<◌, ◌≤◌, Bool, true, false, not, ◌&&◌, ◌||◌, ◌==◌, nat_lt, List, [], ◌∷◌, map, inl, inr, sym, ◌∙◌, ap, subst, refl, arith, ltb-true, eq-eqb}
+use Rattle.std.proofs.Common.{◌≡◌, ℕ, ◌<◌, true, false, not, nat_lt, List, [], ◌∷◌, map, inl, inr, sym, ◌∙◌, ap, refl, arith, ltb-true}
 use Rattle.std.specs.List.{list_any}
 use Rattle.tcs_terms.specs.declared.ids.TxId.{TxId}
 use Rattle.tcs_terms.specs.Logs.{same_txn, txns_differ}
 use Rattle.tcs_terms.specs.Order.{ascends}
-use Rattle.tcs_terms.proofs.BoolLaws.{both, left_of, right_of, not_false}
+use Rattle.tcs_terms.proofs.BoolLaws.{left_of, right_of, not_false}
 use Rattle.protocol.specs.Invariant.Time.{StandsIn}
 use Rattle.protocol_laws.proofs.PromisesOrder.{same_txn-refl}
 use Rattle.protocol_laws.proofs.WithPast.{any-from}

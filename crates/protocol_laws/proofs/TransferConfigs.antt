@@ -1,10 +1,9 @@
 -- Stored configurations: one for each shard and epoch, from epoch 1 on, and their members' shard.
-use Rattle.std.proofs.Common.{◌≡◌, ℕ, zero, suc, ◌+◌, ◌-◌, ◌<◌, ◌≤◌, Bool, true, false, ◌&&◌, ◌==◌, List, [], ◌∷◌, map, filter, length, slice_index, nat_le, Some, None, inl, inr, sym, ◌∙◌, ap, subst, refl, arith, eqb-true, eq-eqb, leb-true}
-use Rattle.std.specs.List.{range_with_len, list_all}
+use Rattle.std.proofs.Common.{◌≡◌, ℕ, zero, suc, ◌+◌, ◌-◌, ◌<◌, ◌≤◌, true, ◌==◌, List, [], ◌∷◌, filter, length, slice_index, Some, inl, inr, sym, ◌∙◌, ap, refl, arith, eqb-true, eq-eqb}
 use Rattle.tcs_terms.specs.Places.{Membership}
 use Rattle.tcs_terms.specs.Setups.{Deployment, has_node, is_node_of}
-use Rattle.tcs_terms.proofs.BoolLaws.{left_of, right_of}
-use Rattle.protocol.specs.Invariant.Configurations.{ConfigurationsHold, epochs_of}
+use Rattle.tcs_terms.proofs.BoolLaws.{right_of}
+use Rattle.protocol.specs.Invariant.Configurations.{ConfigurationsHold}
 use Rattle.protocol.specs.Invariant.Time.{Moment, StandsIn, IsNode, IsStored}
 use Rattle.protocol.specs.Records.{NodeRecord}
 use Rattle.protocol.specs.Service.{last_config, last_epoch}

@@ -1,39 +1,29 @@
 -- How a node comes to a new epoch: it leads one with the rows that it has, or follows one with the initial entries.
-use Rattle.std.proofs.Common.{◌≡◌, ℕ, ◌<◌, ◌≤◌, Bool, true, false, List, ◌++◌, Option, Some, None, ◌⊎◌, inl, inr, sym, ◌∙◌, ap, subst, refl, arith}
+use Rattle.std.proofs.Common.{◌≡◌, ℕ, ◌<◌, ◌≤◌, true, List, Option, None, ◌⊎◌, inl, inr, sym, ◌∙◌, ap, subst, refl, arith}
 use Rattle.tcs_terms.specs.declared.inputs.Event.{Event}
 use Rattle.tcs_terms.specs.declared.inputs.Input.{Input}
 use Rattle.tcs_terms.specs.declared.inputs.Input.TheVariants.{Deliver}
 use Rattle.tcs_terms.specs.declared.logs.Row.{Row}
-use Rattle.tcs_terms.specs.declared.messages.Message.{Message}
 use Rattle.tcs_terms.specs.declared.messages.Message.TheVariants.{NewConfig, NewState, StatePiece}
-use Rattle.tcs_terms.specs.Places.{Membership, is_among}
+use Rattle.tcs_terms.specs.Places.{Membership}
 use Rattle.tcs_terms.specs.Setups.{Deployment}
 use Rattle.tcs_laws.specs.Certification.{Tests}
-use Rattle.protocol.specs.Invariant.{InvariantHolds}
-use Rattle.protocol.specs.Invariant.Configurations.{ConfigurationsHold, role_configs, probed_configs, gathered_configs, configs_of}
-use Rattle.protocol.specs.Invariant.Logs.{entries_of, Reached, Initial}
-use Rattle.protocol.specs.Invariant.Promises.{PromisesHold, FitsRole}
-use Rattle.protocol.specs.Invariant.Time.{Moment, goes_to, StandsIn, IsNode, IsStored, WasSent}
+use Rattle.protocol.specs.Invariant.Logs.{entries_of, Initial}
+use Rattle.protocol.specs.Invariant.Promises.{FitsRole}
+use Rattle.protocol.specs.Invariant.Time.{Moment, goes_to, IsNode, IsStored, WasSent}
 use Rattle.protocol.specs.Outcomes.{Out}
 use Rattle.protocol.specs.Pieces.{rows_of, with_one_more, is_whole, takes_piece, gathering_for}
 use Rattle.protocol.specs.Records.{Role, Gathering, NodeRecord}
 use Rattle.protocol.specs.Records.Role.{Fenced, Leader, Follower}
-use Rattle.protocol.specs.ShardRules.{follows, least}
-use Rattle.protocol.specs.Views.{is_follower}
+use Rattle.protocol.specs.ShardRules.{follows}
 use Rattle.protocol.specs.World.{Happening}
-use Rattle.protocol.proofs.Lists.{among-StandsIn}
-use Rattle.protocol_laws.specs.Change.{Comes}
 use Rattle.protocol_laws.specs.Effect.{Effect, MayFollow}
 use Rattle.protocol_laws.specs.Effect.Effect.{Rests, Leads, Follows, FollowsPieces}
-use Rattle.protocol_laws.specs.Turn.{Turn, Onward}
+use Rattle.protocol_laws.specs.Turn.{Turn}
 use Rattle.protocol_laws.proofs.ConfigurationsInputs.{delivered}
-use Rattle.protocol_laws.proofs.Lasting.{IsIn, reached-back, is_in-now}
-use Rattle.protocol_laws.proofs.Standing.{StandsIn-left, StandsIn-right}
-use Rattle.protocol_laws.proofs.Stored.{one_config, stored-some}
-use Rattle.protocol_laws.proofs.TransferConfigs.{member_shard, leads_member}
-use Rattle.protocol_laws.proofs.TransferEvents.{node_back, IsOfActing, Acting, effect_name, effect_shard}
-use Rattle.protocol_laws.proofs.TransferGathering.{gathered, whole-Initial, IsGathered}
-use Rattle.tcs_terms.proofs.BoolLaws.{left_of}
+use Rattle.protocol_laws.proofs.Stored.{stored-some}
+use Rattle.protocol_laws.proofs.TransferEvents.{Acting, effect_name, effect_shard}
+use Rattle.protocol_laws.proofs.TransferGathering.{gathered, whole-Initial}
 
 -- a node becomes leader of a configuration
 pub record BecomesLeader (node : NodeRecord) (input : Input) (new : NodeRecord) : Type 0 where

@@ -8,20 +8,20 @@ use Rattle.tcs_laws.specs.Certification.{Tests}
 use Rattle.protocol.specs.Invariant.Answers.{AnswerHolds}
 use Rattle.protocol.specs.Invariant.Choice.{IsChosen}
 use Rattle.protocol.specs.Invariant.Configurations.{ConfigurationsHold}
-use Rattle.protocol.specs.Invariant.Logs.{entries_of, Reached, Held, Initial, HasInitial, Skipped, HoldsNoMore}
+use Rattle.protocol.specs.Invariant.Logs.{entries_of, Reached, Held, Initial, HasInitial, Skipped}
 use Rattle.protocol.specs.Invariant.Promises.{IsMemberAt}
-use Rattle.protocol.specs.Invariant.Time.{Moment, goes_to, StandsIn, IsNode, IsStored}
+use Rattle.protocol.specs.Invariant.Time.{Moment, goes_to, StandsIn, IsStored}
 use Rattle.protocol.specs.Invariant.Transfer.{IsHandedOn}
 use Rattle.protocol.specs.Records.{NodeRecord}
-use Rattle.protocol.specs.Records.Role.{Fenced, Leader}
+use Rattle.protocol.specs.Records.Role.{Leader}
 use Rattle.protocol.specs.World.{Happening}
 use Rattle.protocol_laws.specs.Turn.{Turn, Onward}
 use Rattle.protocol_laws.proofs.Lasting.{one_node, is_in-now, no_more-on, no_more-held, HoldsNoMoreThen, held-back, HoldsNow}
 use Rattle.protocol_laws.proofs.Stored.{one_config, stored-some}
 use Rattle.protocol_laws.proofs.TransferConfigs.{next_above}
-use Rattle.protocol_laws.proofs.TransferEvents.{config_back, IsNext}
+use Rattle.protocol_laws.proofs.TransferEvents.{config_back}
 use Rattle.protocol_laws.proofs.TransferEnters.{Leading}
-use Rattle.protocol_laws.proofs.TransferInitial.{initial_back, LeadsWith}
+use Rattle.protocol_laws.proofs.TransferInitial.{initial_back}
 
 -- what is handed on stays so
 handed_still : (setup : Deployment) (t u : Moment) → ConfigurationsHold setup u → Onward t u → (earlier : Membership) (entries : List Preparation) → IsHandedOn t earlier entries → IsHandedOn u earlier entries

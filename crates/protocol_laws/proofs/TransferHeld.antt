@@ -1,10 +1,9 @@
 -- How a member of a configuration comes to hold an entry there: it enters, it leads and appends, or it accepts a listed one.
-use Rattle.std.proofs.Common.{◌≡◌, ℕ, ◌+◌, ◌<◌, ◌≤◌, max, Bool, true, false, cond, ◌==◌, nat_lt, List, [], ◌∷◌, ◌++◌, map, filter, Option, Some, None, ◌⊎◌, inl, inr, sym, ◌∙◌, ap, ap₂, subst, refl, arith}
+use Rattle.std.proofs.Common.{◌≡◌, ℕ, ◌≤◌, Bool, true, false, cond, nat_lt, List, [], ◌∷◌, ◌++◌, filter, Option, None, ◌⊎◌, inl, inr, sym, ◌∙◌, ap, ap₂, subst, refl, arith}
 use Rattle.tcs_terms.specs.declared.ids.TxId.{TxId}
 use Rattle.tcs_terms.specs.declared.inputs.Event.{Event}
 use Rattle.tcs_terms.specs.declared.inputs.Input.{Input}
 use Rattle.tcs_terms.specs.declared.inputs.Input.TheVariants.{Deliver}
-use Rattle.tcs_terms.specs.declared.logs.Mark.{Mark}
 use Rattle.tcs_terms.specs.declared.logs.Row.{Row}
 use Rattle.tcs_terms.specs.declared.messages.Message.TheVariants.{Accept}
 use Rattle.tcs_terms.specs.Payloads.{Accesses}
@@ -14,17 +13,15 @@ use Rattle.tcs_terms.specs.Setups.{Deployment}
 use Rattle.tcs_laws.specs.Certification.{Tests}
 use Rattle.protocol.specs.Invariant.Configurations.{ConfigurationsHold, role_configs, probed_configs, gathered_configs}
 use Rattle.protocol.specs.Invariant.Entries.{ListedAt}
-use Rattle.protocol.specs.Invariant.Logs.{entries_of, Reached, Held, Listed}
+use Rattle.protocol.specs.Invariant.Logs.{entries_of, Held, Listed}
 use Rattle.protocol.specs.Invariant.Promises.{PromisesHold, FitsRole, IsOf}
 use Rattle.protocol.specs.Invariant.Time.{Moment, goes_to, StandsIn, IsNode, IsStored, WasSent}
-use Rattle.protocol.specs.Log.{row_of, new_entry, mark_of, has_at, put_entry, accepted, marked, set_mark, undecided}
+use Rattle.protocol.specs.Log.{row_of, new_entry, mark_of, has_at, put_entry, accepted, undecided}
 use Rattle.protocol.specs.Outcomes.{Out}
 use Rattle.protocol.specs.Records.{Role, NodeRecord}
 use Rattle.protocol.specs.Records.Role.{Fenced, Leader, Follower}
 use Rattle.protocol.specs.ShardRules.{is_leader, least}
 use Rattle.protocol.specs.World.{Happening}
-use Rattle.protocol.proofs.Lists.{StandsIn-append}
-use Rattle.protocol_laws.specs.Change.{Comes}
 use Rattle.protocol_laws.specs.Effect.{Effect, MayFollow}
 use Rattle.protocol_laws.specs.Effect.Effect.{Rests, Appends, Accepts, Marks, Follows, FollowsPieces}
 use Rattle.protocol_laws.specs.Turn.{Turn, Onward}
@@ -32,10 +29,10 @@ use Rattle.protocol_laws.proofs.ConfigurationsInputs.{delivered}
 use Rattle.protocol_laws.proofs.EntriesKept.{entries_of-marked}
 use Rattle.protocol_laws.proofs.Lasting.{HoldsNow, held-back, is_in-now}
 use Rattle.protocol_laws.proofs.PromisesOrder.{filtered-StandsIn}
-use Rattle.protocol_laws.proofs.Standing.{StandsIn-left, StandsIn-right, StandsIn-map, map-StandsIn, IsMapped, filter-StandsIn}
+use Rattle.protocol_laws.proofs.Standing.{StandsIn-left, StandsIn-right}
 use Rattle.protocol_laws.proofs.Stored.{one_config, stored-some}
 use Rattle.protocol_laws.proofs.TransferConfigs.{member_shard}
-use Rattle.protocol_laws.proofs.TransferEvents.{node_back, IsOfActing, Acting, effect_name, effect_shard}
+use Rattle.protocol_laws.proofs.TransferEvents.{node_back, IsOfActing, effect_name, effect_shard}
 use Rattle.protocol_laws.proofs.TransferEnters.{enters, EntersAs}
 use Rattle.protocol_laws.proofs.TransferReached.{Enters, enters_it}
 

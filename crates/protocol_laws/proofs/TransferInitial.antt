@@ -1,6 +1,5 @@
 -- When the initial entries of a configuration come to be defined: as its leader becomes its leader, once.
-use Rattle.std.proofs.Common.{◌≡◌, ℕ, ◌+◌, ◌<◌, ◌≤◌, ◌==◌, List, [], ◌∷◌, ◌++◌, filter, Option, Some, None, ◌⊎◌, inl, inr, sym, ◌∙◌, ap, subst, refl, arith}
-use Rattle.std.specs.List.{last_or}
+use Rattle.std.proofs.Common.{◌≡◌, ◌<◌, ◌≤◌, ◌==◌, List, [], ◌∷◌, ◌++◌, filter, Some, None, ◌⊎◌, inl, inr, sym, ◌∙◌, ap, subst, refl, arith}
 use Rattle.tcs_terms.specs.declared.inputs.Event.{Event}
 use Rattle.tcs_terms.specs.declared.logs.Row.{Row}
 use Rattle.tcs_terms.specs.Places.{Membership}
@@ -10,7 +9,7 @@ use Rattle.tcs_laws.specs.Certification.{Tests}
 use Rattle.protocol.specs.Invariant.Configurations.{ConfigurationsHold}
 use Rattle.protocol.specs.Invariant.Logs.{entries_of, Reached, BecameLeader, Initial, HasInitial}
 use Rattle.protocol.specs.Invariant.Time.{Moment, worlds, goes_to, StandsIn, IsNode, IsStored}
-use Rattle.protocol.specs.Records.{Role, NodeRecord}
+use Rattle.protocol.specs.Records.{NodeRecord}
 use Rattle.protocol.specs.Records.Role.{Leader, Follower}
 use Rattle.protocol.specs.World.{World, Happening}
 use Rattle.protocol_laws.specs.Turn.{Turn, Onward}
@@ -19,7 +18,7 @@ use Rattle.protocol_laws.proofs.Stands.{last_or-StandsIn}
 use Rattle.protocol_laws.proofs.Standing.{StandsIn-right, filter-StandsIn}
 use Rattle.protocol_laws.proofs.Stored.{stored-some}
 use Rattle.protocol_laws.proofs.TransferConfigs.{leads_member}
-use Rattle.protocol_laws.proofs.TransferEvents.{node_back, config_back, IsNext, IsOfActing, Acting, effect_name}
+use Rattle.protocol_laws.proofs.TransferEvents.{node_back, config_back, IsNext, IsOfActing, effect_name}
 use Rattle.protocol_laws.proofs.TransferEnters.{enters, EntersAs, LeadsAs, Leading, Following}
 use Rattle.protocol_laws.proofs.TransferReached.{stored_then}
 

@@ -1,5 +1,5 @@
 -- One event keeps state transfer.
-use Rattle.std.proofs.Common.{◌≡◌, ℕ, ◌≤◌, ◌<◌, List, [], ◌∷◌, ◌⊎◌, inl, inr, sym, ◌∙◌, ap, subst, refl, arith}
+use Rattle.std.proofs.Common.{◌≡◌, ℕ, ◌≤◌, List, ◌⊎◌, inl, inr, sym, ◌∙◌, ap, subst, refl}
 use Rattle.tcs_terms.specs.declared.inputs.Event.{Event}
 use Rattle.tcs_terms.specs.Places.{Membership}
 use Rattle.tcs_terms.specs.Preparations.{Preparation}
@@ -10,13 +10,13 @@ use Rattle.protocol.specs.Invariant.Choice.{ChoiceHolds}
 use Rattle.protocol.specs.Invariant.Configurations.{ConfigurationsHold}
 use Rattle.protocol.specs.Invariant.Logs.{entries_of, Reached, Held, Initial, HasInitial, Listed}
 use Rattle.protocol.specs.Invariant.Promises.{PromisesHold}
-use Rattle.protocol.specs.Invariant.Time.{Moment, goes_to, StandsIn, IsNode, IsStored}
+use Rattle.protocol.specs.Invariant.Time.{Moment, goes_to, StandsIn, IsStored}
 use Rattle.protocol.specs.Invariant.Transfer.{TransferHolds}
 use Rattle.protocol.specs.Records.{NodeRecord}
 use Rattle.protocol.specs.Records.Role.{Leader}
 use Rattle.protocol.specs.World.{Happening}
 use Rattle.protocol_laws.specs.Turn.{Turn, Onward}
-use Rattle.protocol_laws.proofs.Lasting.{one_node, is_in-now, reached-on, held-on, initial-on, has_initial-on, listed-on}
+use Rattle.protocol_laws.proofs.Lasting.{one_node, is_in-now, reached-on, held-on, has_initial-on, listed-on}
 use Rattle.protocol_laws.proofs.OnwardOf.{onward_of}
 use Rattle.protocol_laws.proofs.Stored.{stored-some}
 use Rattle.protocol_laws.proofs.TransferConfigs.{leads_member}

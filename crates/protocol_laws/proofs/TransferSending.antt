@@ -1,5 +1,5 @@
 -- Why a node sends a message that speaks of entries: each effect's sends.
-use Rattle.std.proofs.Common.{◌≡◌, ℕ, ◌+◌, ◌-◌, ◌≤◌, ◌<◌, Bool, true, false, cond, ◌&&◌, ◌==◌, nat_lt, List, [], ◌∷◌, ◌++◌, map, filter, find, flat_map, Option, Some, None, ◌⊎◌, inl, inr, sym, ◌∙◌, ap, subst, refl, arith, eqb-true}
+use Rattle.std.proofs.Common.{◌≡◌, ℕ, ◌-◌, ◌≤◌, Bool, true, false, cond, ◌==◌, nat_lt, List, [], ◌∷◌, ◌++◌, filter, Option, Some, None, ◌⊎◌, inl, inr, sym, ◌∙◌, ap, subst, refl, eqb-true}
 use Rattle.tcs_terms.specs.declared.ids.TxId.{TxId}
 use Rattle.tcs_terms.specs.declared.inputs.Input.{Input}
 use Rattle.tcs_terms.specs.declared.inputs.Input.TheVariants.{Deliver}
@@ -10,13 +10,12 @@ use Rattle.tcs_terms.specs.declared.messages.Outgoing.{Outgoing}
 use Rattle.tcs_terms.specs.Logs.{same_txn}
 use Rattle.tcs_terms.specs.Places.{Membership}
 use Rattle.tcs_terms.specs.Preparations.{Preparation}
-use Rattle.tcs_terms.proofs.BoolLaws.{left_of, right_of}
 use Rattle.tcs_laws.specs.Certification.{Tests}
 use Rattle.protocol.specs.Cases.{accept}
 use Rattle.protocol.specs.Coordination.{first_entry}
 use Rattle.protocol.specs.Invariant.Logs.{entries_of}
 use Rattle.protocol.specs.Invariant.Time.{StandsIn}
-use Rattle.protocol.specs.Log.{row_of, row_at, holds_txn, has_at, put_entry, accepted, undecided}
+use Rattle.protocol.specs.Log.{row_at, holds_txn, has_at, put_entry, accepted, undecided}
 use Rattle.protocol.specs.Outcomes.{Out, to}
 use Rattle.protocol.specs.Pieces.{piece_count, piece_of}
 use Rattle.protocol.specs.Probing.{ask_stage, proposed}
@@ -27,9 +26,9 @@ use Rattle.protocol.proofs.Lists.{StandsIn-append, find-StandsIn}
 use Rattle.protocol_laws.specs.Effect.{Effect, OpenPart}
 use Rattle.protocol_laws.specs.Effect.Effect.{Rests, Certifies, TakesOver, Nudges, Moves, Lowers, Reads, Asks, AnswersAgain, Appends, Votes, Acknowledges, Changes, Learns, Keeps, Accepts, Marks, Promises, Chooses, FindsLow, Leads, Follows, Gathers, FollowsPieces}
 use Rattle.protocol_laws.proofs.TransactionsLists.{IsPiece, flat_map-StandsIn, same_txn-eq}
-use Rattle.protocol_laws.proofs.Standing.{StandsIn-left, StandsIn-right, StandsIn-map}
+use Rattle.protocol_laws.proofs.Standing.{StandsIn-right, StandsIn-map}
 use Rattle.protocol_laws.proofs.TransferEnters.{BecomesLeader}
-use Rattle.protocol_laws.proofs.TransferSends.{SaysNothing, SayNothing, none-says, one-says, append-says, accept-says, AsksIn, AsksFor, AsksAgainFor, new_case-says, resend-says, ask_leader-says, probe-says, ask_stage-says, notices-says, sees-says, hears-says, goes_on-says, IsPieceOf, state-says}
+use Rattle.protocol_laws.proofs.TransferSends.{SaysNothing, SayNothing, one-says, append-says, accept-says, AsksIn, AsksAgainFor, new_case-says, resend-says, ask_leader-says, ask_stage-says, notices-says, sees-says, hears-says, goes_on-says, IsPieceOf, state-says}
 
 -- a part takes the vote of a PREPARE_ACK, or keeps the one that it has
 pub record VotesNow (node : NodeRecord) (input : Input) (view : Membership) (entry : Preparation) : Type 0 where
