@@ -27,9 +27,18 @@ same_decision-self : (d : Decision) → same_decision d d ≡ true
 same_decision-self Commit = refl
 same_decision-self (Abort shard cause) = both (shard == shard) (same_cause cause cause) (eq-eqb shard shard refl) (same_cause-self cause)
 
--- all decisions of one transaction in a history are equal
-abbrev pub DecidesOnce : List Note → Type 0
-DecidesOnce history = (txn : TxId) (a b : Decision) → StandsIn (Decide txn a) history → StandsIn (Decide txn b) history → a ≡ b
+-- each decision is equal to those of its transaction that stand before it
+pub record AgreeEarlier (h : List Note) : Type 0 where
+  pub each : (before : List Note) (txn : TxId) (decision : Decision) (after : List Note) → h ≡ before ++ (Decide txn decision ∷ after) → (other : Decision) → StandsIn (Decide txn other) before → other ≡ decision
+
+-- where all decisions of one transaction are equal, each is to the earlier ones
+pub agree_earlier : (h : List Note) → ((txn : TxId) (a b : Decision) → StandsIn (Decide txn a) h → StandsIn (Decide txn b) h → a ≡ b) → AgreeEarlier h
+agree_earlier h once = record { each = each }
+  where
+    each : (before : List Note) (txn : TxId) (decision : Decision) (after : List Note) → h ≡ before ++ (Decide txn decision ∷ after) → (other : Decision) → StandsIn (Decide txn other) before → other ≡ decision
+    each before txn decision after e other s = once txn other decision
+        (subst (λ ns. StandsIn (Decide txn other) ns) (sym e) (StandsIn-left before (Decide txn decision ∷ after) (Decide txn other) s))
+        (subst (λ ns. StandsIn (Decide txn decision) ns) (sym e) (StandsIn-right before (Decide txn decision ∷ after) (Decide txn decision) (inl refl)))
 
 agrees_with-of : (txn : TxId) (decision : Decision) (n : Note) → ((other : Decision) → n ≡ Decide txn other → other ≡ decision) → agrees_with txn decision n ≡ true
 agrees_with-of txn decision (Begin other payload) h = refl
@@ -41,19 +50,13 @@ agrees_with-of txn decision (Decide other d) h = go (same_txn other txn) refl
     go false e = refl
     go true e = let same : d ≡ decision = h d (ap (λ t. Decide t d) (same_txn-eq other txn e)) in subst (λ x. same_decision d x ≡ true) same (same_decision-self d)
 
-agrees_after-of : (h before : List Note) (n : Note) (after : List Note) → BegunFirst h → DecidesOnce h → h ≡ before ++ (n ∷ after) → agrees_after before n ≡ true
-agrees_after-of h before (Begin txn payload) after b o e = refl
-agrees_after-of h before (Take txn) after b o e = refl
-agrees_after-of h before (ReadValue name version value) after b o e = refl
-agrees_after-of h before (Decide txn decision) after b o e =
+agrees_after-of : (h before : List Note) (n : Note) (after : List Note) → BegunFirst h → AgreeEarlier h → h ≡ before ++ (n ∷ after) → agrees_after before n ≡ true
+agrees_after-of h before (Begin txn payload) after b a e = refl
+agrees_after-of h before (Take txn) after b a e = refl
+agrees_after-of h before (ReadValue name version value) after b a e = refl
+agrees_after-of h before (Decide txn decision) after b a e =
     both (has_begun before txn) (list_all (agrees_with txn decision) before) (b.each before txn decision after e)
-    (all-from (agrees_with txn decision) before (λ n s. agrees_with-of txn decision n (λ other k. o txn other decision (earlier other (subst (λ m. StandsIn m before) k s)) now)))
-  where
-    now : StandsIn (Decide txn decision) h
-    now = subst (λ ns. StandsIn (Decide txn decision) ns) (sym e) (StandsIn-right before (Decide txn decision ∷ after) (Decide txn decision) (inl refl))
+    (all-from (agrees_with txn decision) before (λ n s. agrees_with-of txn decision n (λ other k. a.each before txn decision after e other (subst (λ m. StandsIn m before) k s))))
 
-    earlier : (other : Decision) → StandsIn (Decide txn other) before → StandsIn (Decide txn other) h
-    earlier other s = subst (λ ns. StandsIn (Decide txn other) ns) (sym e) (StandsIn-left before (Decide txn decision ∷ after) (Decide txn other) s)
-
-pub agrees-of : (h : List Note) → BegunFirst h → DecidesOnce h → agrees h ≡ true
-agrees-of h b o = all-with_past (λ e. agrees_after e.0 e.1) h (λ before n after e. agrees_after-of h before n after b o e)
+pub agrees-of : (h : List Note) → BegunFirst h → AgreeEarlier h → agrees h ≡ true
+agrees-of h b a = all-with_past (λ e. agrees_after e.0 e.1) h (λ before n after e. agrees_after-of h before n after b a e)

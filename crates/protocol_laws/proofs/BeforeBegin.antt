@@ -15,8 +15,8 @@ use Rattle.protocol.specs.OneCopy.{before_begin}
 use Rattle.protocol_laws.proofs.BegunFirst.{BegunFirst}
 use Rattle.protocol_laws.proofs.Fronts.{IsFront, Splits, InFirst, InSecond, splits}
 use Rattle.protocol_laws.proofs.KeepsTime.{decided-begun}
-use Rattle.protocol_laws.proofs.Orders.{commit-told}
 use Rattle.protocol_laws.proofs.OrderOf.{order-front, order-noted}
+use Rattle.protocol_laws.proofs.Orders.{commit-told}
 use Rattle.protocol_laws.proofs.Standing.{StandsIn-filter, StandsIn-left, StandsIn-right}
 use Rattle.protocol_laws.proofs.TransactionsLists.{same_txn-eq}
 

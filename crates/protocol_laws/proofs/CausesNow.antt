@@ -21,7 +21,9 @@ use Rattle.protocol.specs.History.{payload_in}
 use Rattle.protocol.specs.Invariant.Decisions.{IsDecidedBy}
 use Rattle.protocol.specs.Invariant.Entries.{Appended}
 use Rattle.protocol.specs.Invariant.Logs.{Listed}
-use Rattle.protocol.specs.Invariant.Time.{Moment, worlds, StandsIn}
+use Rattle.protocol.specs.Invariant.{InvariantHolds}
+use Rattle.protocol.specs.Invariant.Time.{Moment, worlds, StandsIn, WasNoted}
+use Rattle.protocol.specs.Invariant.Transactions.{FoundNothingBy}
 use Rattle.protocol.specs.Log.{vote_on_part}
 use Rattle.protocol.specs.Records.{Part}
 use Rattle.protocol_laws.proofs.AcceptedSays.{before-past}
@@ -29,7 +31,7 @@ use Rattle.protocol_laws.proofs.DecidedEntries.{DecidedEntry, decided-entry}
 use Rattle.protocol_laws.proofs.DecidesNow.{DecidesNow, now-noted, earlier-payload, earlier-take}
 use Rattle.protocol_laws.proofs.OneEntry.{accepted-listed}
 use Rattle.protocol_laws.proofs.PartsOf.{shard-part}
-use Rattle.protocol_laws.proofs.PastKept.{EntrySays, WorldHolds}
+use Rattle.protocol_laws.proofs.PastKept.{EntrySays, WorldHolds, PastHolds}
 use Rattle.protocol_laws.proofs.Standing.{StandsIn-map}
 use Rattle.protocol_laws.proofs.Verdicts.{clash_cause, lost_cause, IsAbortedBy, abort-part}
 use Rattle.protocol_laws.proofs.VotesSay.{ClashesWith, clash-row, refused-unprepared}
@@ -48,15 +50,15 @@ record AbortingEntry (n : ℕ) (t : Moment) (txn : TxId) (shard : ℕ) (cause : 
   has : cause_of (Some entry) ≡ Some cause
   among : StandsIn shard (shards_of n whole)
 
-aborting-entry : (tests : Tests) (setup : Deployment) (t : Moment) (earlier : List Note) (txn : TxId) (shard : ℕ) (cause : Cause) (whole : Accesses) → DecidesNow tests setup t earlier txn (Abort shard cause)
+aborting-entry : (tests : Tests) (setup : Deployment) (t : Moment) (txn : TxId) (shard : ℕ) (cause : Cause) (whole : Accesses) → InvariantHolds tests setup t → PastHolds setup t → WasNoted t (Decide txn (Abort shard cause))
     → payload_in t.now.history txn ≡ Some whole → AbortingEntry setup.shards t txn shard cause whole
-aborting-entry tests setup t earlier txn shard cause whole now begun =
-    let d : IsDecidedBy setup.shards t txn (Abort shard cause) = now.holds.decisions.decided txn (Abort shard cause) (now-noted tests setup t earlier txn (Abort shard cause) now) in
+aborting-entry tests setup t txn shard cause whole holds past noted begun =
+    let d : IsDecidedBy setup.shards t txn (Abort shard cause) = holds.decisions.decided txn (Abort shard cause) noted in
     let a : IsAbortedBy d.parts shard cause = abort-part d.parts shard cause (sym d.gives) in
     let same : d.payload ≡ whole = cc (begun, d.begun.first) in
     let among : StandsIn a.part.shard (shards_of setup.shards whole) = subst (λ ss. StandsIn a.part.shard ss) (d.shards ∙ ap (λ m. shards_of setup.shards m) same) (StandsIn-map (λ p. p.shard) d.parts a.part a.there) in
     subst (λ m. AbortingEntry setup.shards t txn m cause whole) a.of_shard
-    (go a.part (decided-entry tests setup t txn (Abort shard cause) whole a.part now.holds now.past begun d a.there) a.has among)
+    (go a.part (decided-entry tests setup t txn (Abort shard cause) whole a.part holds past begun d a.there) a.has among)
   where
     go : (p : Part) → DecidedEntry setup.shards t txn p.shard whole p.entry → cause_of p.entry ≡ Some cause → StandsIn p.shard (shards_of setup.shards whole) → AbortingEntry setup.shards t txn p.shard cause whole
     go p x has among = record { entry = x.entry; found = subst (λ o. DecidedEntry setup.shards t txn p.shard whole o) x.is x; has = subst (λ o. cause_of o ≡ Some cause) x.is has; among = among }
@@ -81,7 +83,7 @@ names_row tests setup t earlier txn other shard new r lawful now among says clas
 pub clash_now : (tests : Tests) (setup : Deployment) (t : Moment) (earlier : List Note) (txn other : TxId) (shard : ℕ) (new : Accesses) → IsLawful tests
     → DecidesNow tests setup t earlier txn (Abort shard (causes.Clash other)) → payload_in t.now.history txn ≡ Some new → NamesClash tests setup.shards earlier txn new shard other
 clash_now tests setup t earlier txn other shard new lawful now begun =
-    let a : AbortingEntry setup.shards t txn shard (causes.Clash other) new = aborting-entry tests setup t earlier txn shard (causes.Clash other) new now begun in
+    let a : AbortingEntry setup.shards t txn shard (causes.Clash other) new = aborting-entry tests setup t txn shard (causes.Clash other) new now.holds now.past (now-noted tests setup t earlier txn (Abort shard (causes.Clash other)) now) begun in
     let same : a.entry ≡ a.found.entry = cc a.found.is in
     go a (ap (λ x. x.vote) (sym same) ∙ clash_cause a.entry.vote other a.has)
   where
@@ -102,7 +104,7 @@ clash_now tests setup t earlier txn other shard new lawful now begun =
 pub lost_now : (tests : Tests) (setup : Deployment) (t : Moment) (earlier : List Note) (txn : TxId) (shard : ℕ) (whole : Accesses)
     → DecidesNow tests setup t earlier txn (Abort shard causes.Lost) → payload_in t.now.history txn ≡ Some whole → StandsIn (Take txn) earlier
 lost_now tests setup t earlier txn shard whole now begun =
-    let a : AbortingEntry setup.shards t txn shard causes.Lost whole = aborting-entry tests setup t earlier txn shard causes.Lost whole now begun in
+    let a : AbortingEntry setup.shards t txn shard causes.Lost whole = aborting-entry tests setup t txn shard causes.Lost whole now.holds now.past (now-noted tests setup t earlier txn (Abort shard causes.Lost) now) begun in
     go a a.found.part
   where
     go : (a : AbortingEntry setup.shards t txn shard causes.Lost whole) → (a.found.entry.payload ≡ restricted setup.shards shard whole) ⊎ ((a.found.entry.payload ≡ None) × StandsIn (Take txn) t.now.history) → StandsIn (Take txn) earlier
@@ -112,3 +114,11 @@ lost_now tests setup t earlier txn shard whole now begun =
         let vote : a.found.entry.vote ≡ votes.Lost = ap (λ x. x.vote) (sym same) ∙ lost_cause a.entry.vote a.has in
         let some : a.found.entry.payload ≡ Some (part_in setup.shards shard whole) = e ∙ shard-part setup.shards shard whole a.among in
         absurd (let k : is_none a.found.entry.payload ≡ is_lost a.found.entry.vote = a.found.keeps in cc (k, ap (λ o. is_none o) some, ap (λ v. is_lost v) vote))
+
+-- of what is lost, the named shard found nothing
+pub lost-found : (tests : Tests) (setup : Deployment) (t : Moment) (txn : TxId) (shard : ℕ) → InvariantHolds tests setup t → PastHolds setup t → WasNoted t (Decide txn (Abort shard causes.Lost)) → FoundNothingBy t txn shard
+lost-found tests setup t txn shard holds past noted =
+    let d : IsDecidedBy setup.shards t txn (Abort shard causes.Lost) = holds.decisions.decided txn (Abort shard causes.Lost) noted in
+    let a : AbortingEntry setup.shards t txn shard causes.Lost d.payload = aborting-entry tests setup t txn shard causes.Lost d.payload holds past noted d.begun.first in
+    let same : a.entry ≡ a.found.entry = cc a.found.is in
+    a.found.lost (ap (λ x. x.vote) (sym same) ∙ lost_cause a.entry.vote a.has)

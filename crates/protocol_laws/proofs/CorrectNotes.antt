@@ -1,58 +1,20 @@
--- Agreement and the causes of aborts, as tests of a history.
-use Rattle.std.proofs.Common.{◌≡◌, ℕ, Bool, true, false, not, ◌&&◌, ◌||◌, ◌==◌, List, [], ◌∷◌, ◌++◌, Option, Some, None, is_some, inl, inr, ◌⊎◌, sym, ◌∙◌, ap, subst, refl, eq-eqb}
-use Rattle.std.specs.List.{list_all, list_any}
+-- The causes of aborts, as tests of a history.
+use Rattle.std.proofs.Common.{◌≡◌, ℕ, true, not, List, [], ◌∷◌, ◌++◌, Some, sym, subst, refl}
 use Rattle.std.proofs.lemmas.Bool.{and_from, false_from_ne_true, not_from_false}
 use Rattle.tcs_terms.specs.declared.ids.TxId.{TxId}
 use Rattle.tcs_terms.specs.declared.inputs.Note.{Note}
 use Rattle.tcs_terms.specs.declared.inputs.Note.TheVariants.{Begin, Take, ReadValue, Decide}
-use Rattle.tcs_terms.specs.declared.votes.Cause.{Cause}
 use Rattle.tcs_terms.specs.declared.votes.Cause.TheVariants.{Clash, Lost}
 use Rattle.tcs_terms.specs.declared.votes.Decision.{Decision}
 use Rattle.tcs_terms.specs.declared.votes.Decision.TheVariants.{Commit, Abort}
 use Rattle.tcs_terms.specs.Logs.{same_txn}
-use Rattle.tcs_terms.specs.Payloads.{Accesses}
 use Rattle.tcs_laws.specs.Certification.{Tests, prepared_passes_in}
-use Rattle.protocol.specs.CorrectHistory.{same_cause, same_decision, agrees_with, agrees_after, agrees, clash_in, has_cause, clash_after_by, clash_after, names_clashes, was_taken, lost_after_by, lost_after, names_losses}
-use Rattle.protocol.specs.History.{payload_in, has_begun, takes}
-use Rattle.protocol.specs.Invariant.Time.{StandsIn}
+use Rattle.protocol.specs.CorrectHistory.{clash_in, clash_after_by, clash_after, names_clashes, lost_after_by, lost_after, names_losses}
+use Rattle.protocol.specs.History.{payload_in, takes}
 use Rattle.protocol_laws.proofs.CausesNow.{NamesClash}
 use Rattle.protocol_laws.proofs.HistoryKept.{DecisionStands, HistoryHolds}
-use Rattle.protocol_laws.proofs.Standing.{all-from}
-use Rattle.protocol_laws.proofs.WithPast.{all-with_past, any-from, same_txn-eq, same_txn-self}
-
-same_cause-self : (c : Cause) → same_cause c c ≡ true
-same_cause-self (Clash txn) = same_txn-self txn
-same_cause-self Lost = refl
-
-same_decision-self : (d : Decision) → same_decision d d ≡ true
-same_decision-self Commit = refl
-same_decision-self (Abort shard cause) = and_from (shard == shard) (same_cause cause cause) (eq-eqb shard shard refl) (same_cause-self cause)
-
--- each decision agrees with those before it
-agrees_with-each : (tests : Tests) (n : ℕ) (before : List Note) (txn : TxId) (decision : Decision) → DecisionStands tests n before txn decision → (m : Note) → StandsIn m before → agrees_with txn decision m ≡ true
-agrees_with-each tests n before txn decision d (Begin other payload) s = refl
-agrees_with-each tests n before txn decision d (Take other) s = refl
-agrees_with-each tests n before txn decision d (ReadValue name version value) s = refl
-agrees_with-each tests n before txn decision d (Decide other taken) s = go (same_txn other txn) refl
-  where
-    go : (b : Bool) → same_txn other txn ≡ b → (not b || same_decision taken decision) ≡ true
-    go false e = refl
-    go true e =
-        let txns : other ≡ txn = same_txn-eq other txn e in
-        let same : taken ≡ decision = d.agrees taken (subst (λ x. StandsIn (Decide x taken) before) txns s) in
-        subst (λ x. same_decision x decision ≡ true) (sym same) (same_decision-self decision)
-
-pub history-agrees : (tests : Tests) (n : ℕ) (h : List Note) → HistoryHolds tests n h → agrees h ≡ true
-history-agrees tests n h holds = all-with_past (λ e. agrees_after e.0 e.1) h each
-  where
-    each : (before : List Note) (x : Note) (after : List Note) → h ≡ before ++ (x ∷ after) → agrees_after before x ≡ true
-    each before (Begin txn payload) after e = refl
-    each before (Take txn) after e = refl
-    each before (ReadValue name version value) after e = refl
-    each before (Decide txn decision) after e =
-        let d : DecisionStands tests n before txn decision = holds.each before after txn decision e in
-        and_from (has_begun before txn) (list_all (agrees_with txn decision) before) (ap (λ o. is_some o) d.begun)
-        (all-from (agrees_with txn decision) before (agrees_with-each tests n before txn decision d))
+use Rattle.protocol_laws.proofs.TransactionsLists.{same_txn-eq}
+use Rattle.protocol_laws.proofs.WithPast.{all-with_past, any-from, same_txn-self}
 
 -- what is lost was taken over
 lost_by : (tests : Tests) (n : ℕ) (before : List Note) (txn : TxId) (decision : Decision) → DecisionStands tests n before txn decision → lost_after_by before txn decision ≡ true

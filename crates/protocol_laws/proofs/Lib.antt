@@ -32,6 +32,9 @@ pub mod Orders
 pub mod CorrectOrder
 pub mod CorrectOf
 pub mod Runs
+pub mod AppendedBy
+pub mod FoundInRun
+pub mod RunMoments
 pub mod EffectOf
 pub mod ServesOf
 pub mod ChangeOf
@@ -91,7 +94,6 @@ pub mod BegunFirst
 pub mod AgreesOf
 pub mod OrderOf
 pub mod KeepsTime
-pub mod HistoryAt
 pub mod HistoryLaws
 pub mod TransferGathering
 pub mod TransferEnters
@@ -121,3 +123,4 @@ pub mod RangesOnce
 pub mod CopyTells
 pub mod CopyFits
 pub mod OneCopyOf
+pub mod CopyLaws

@@ -1,17 +1,15 @@
 -- The order of committed transactions: each stands there at the place of its first decision to commit.
 use Rattle.std.proofs.Common.{◌≡◌, Bool, true, false, cond, not, List, [], ◌∷◌, ◌++◌, filter, filter_map, Option, Some, None, inl, inr, ◌⊎◌, sym, ◌∙◌, ap, subst, refl}
 use Rattle.std.specs.List.{cons_option}
-use Rattle.std.proofs.lemmas.Bool.{both_ways, not-true, not_from_false, false_from_ne_true}
+use Rattle.std.proofs.lemmas.Bool.{both_ways, not-true}
 use Rattle.tcs_terms.specs.declared.ids.TxId.{TxId}
 use Rattle.tcs_terms.specs.declared.inputs.Note.{Note}
 use Rattle.tcs_terms.specs.declared.inputs.Note.TheVariants.{Begin, Take, ReadValue, Decide}
-use Rattle.tcs_terms.specs.declared.votes.Decision.{Decision}
 use Rattle.tcs_terms.specs.declared.votes.Decision.TheVariants.{Commit, Abort}
 use Rattle.tcs_terms.specs.Logs.{same_txn}
-use Rattle.protocol.specs.History.{commit_in, commits_by, first_of_each, order_of}
+use Rattle.protocol.specs.History.{commit_in, first_of_each, order_of}
 use Rattle.protocol.specs.Invariant.Time.{StandsIn}
-use Rattle.protocol_laws.proofs.Standing.{filter-StandsIn}
-use Rattle.protocol_laws.proofs.WithPast.{same_txn-eq, same_txn-self}
+use Rattle.protocol_laws.proofs.WithPast.{same_txn-self}
 
 -- where an element of a filtered list stands in the whole list
 record StoodIn {X : Type 0} (p : X → Bool) (ys before : List X) (x : X) : Type 0 where
@@ -20,7 +18,6 @@ record StoodIn {X : Type 0} (p : X → Bool) (ys before : List X) (x : X) : Type
   is : ys ≡ front ++ (x ∷ back)
   passes : p x ≡ true
   among : (u : X) → StandsIn u before → StandsIn u front
-  kept : (u : X) → StandsIn u front → p u ≡ true → StandsIn u before
 
 stood_in : {X : Type 0} (p : X → Bool) (ys before : List X) (x : X) (after : List X) → filter p ys ≡ before ++ (x ∷ after) → StoodIn p ys before x
 stood_in p [] [] x after h = absurd (cc h)
@@ -36,9 +33,8 @@ stood_in {X} p (y ∷ ys) before x after h = go (p y) refl before h (λ bs k. st
           is = ap (λ zs. y ∷ zs) r.is;
           passes = r.passes;
           among = λ u s. inr (r.among u s);
-          kept = λ u s t. elim s [ inl q ↦ absurd (both_ways (p y) e (subst (λ z. p z ≡ true) q t)) | inr s ↦ r.kept u s t ];
         }
-    go true e [] k ih = record { front = []; back = ys; is = cc k; passes = let q : y ≡ x = cc k in subst (λ z. p z ≡ true) q e; among = λ u s. s; kept = λ u s t. s }
+    go true e [] k ih = record { front = []; back = ys; is = cc k; passes = let q : y ≡ x = cc k in subst (λ z. p z ≡ true) q e; among = λ u s. s }
     go true e (b ∷ bs) k ih =
         let r : StoodIn p ys bs x = ih bs (cc k) in
         let q : y ≡ b = cc k in
@@ -48,7 +44,6 @@ stood_in {X} p (y ∷ ys) before x after h = go (p y) refl before h (λ bs k. st
           is = ap (λ zs. y ∷ zs) r.is;
           passes = r.passes;
           among = λ u s. elim s [ inl m ↦ inl (m ∙ sym q) | inr m ↦ inr (r.among u m) ];
-          kept = λ u s t. elim s [ inl m ↦ inl (m ∙ q) | inr m ↦ inr (r.kept u m t) ];
         }
 
 -- where a transaction first stands in a list, of which the first of each are told
@@ -58,18 +53,18 @@ record FirstStands (xs before : List TxId) (x : TxId) : Type 0 where
   is : xs ≡ front ++ (x ∷ back)
   new : StandsIn x front → ⊥
   among : (u : TxId) → StandsIn u before → StandsIn u front
-  kept : (u : TxId) → StandsIn u front → StandsIn u before
 
 first_stands : (xs before : List TxId) (x : TxId) (after : List TxId) → first_of_each xs ≡ before ++ (x ∷ after) → FirstStands xs before x
 first_stands [] [] x after h = absurd (cc h)
 first_stands [] (b ∷ bs) x after h = absurd (cc h)
-first_stands (y ∷ ys) [] x after h = record { front = []; back = ys; is = let q : y ≡ x = cc h in ap (λ z. z ∷ ys) q; new = λ s. s; among = λ u s. s; kept = λ u s. s }
+first_stands (y ∷ ys) [] x after h = record { front = []; back = ys; is = let q : y ≡ x = cc h in ap (λ z. z ∷ ys) q; new = λ s. s; among = λ u s. s }
 first_stands (y ∷ ys) (b ∷ bs) x after h =
     let f : StoodIn (λ u. not (same_txn y u)) (first_of_each ys) bs x = stood_in (λ u. not (same_txn y u)) (first_of_each ys) bs x after (cc h) in
     go f (first_stands ys f.front x f.back f.is)
   where
     q : y ≡ b
     q = cc h
+
     go : (f : StoodIn (λ u. not (same_txn y u)) (first_of_each ys) bs x) → FirstStands ys f.front x → FirstStands (y ∷ ys) (b ∷ bs) x
     go f r = record {
       front = y ∷ r.front;
@@ -77,12 +72,7 @@ first_stands (y ∷ ys) (b ∷ bs) x after h =
       is = ap (λ zs. y ∷ zs) r.is;
       new = λ s. elim s [ inl m ↦ both_ways (same_txn y x) (not-true (same_txn y x) f.passes) (subst (λ z. same_txn y z ≡ true) (sym m) (same_txn-self y)) | inr m ↦ r.new m ];
       among = λ u s. elim s [ inl m ↦ inl (m ∙ sym q) | inr m ↦ inr (r.among u (f.among u m)) ];
-      kept = λ u s. elim s [ inl m ↦ inl (m ∙ q) | inr m ↦ keep f u (r.kept u m) (same_txn y u) refl ];
     }
-      where
-        keep : (f : StoodIn (λ u. not (same_txn y u)) (first_of_each ys) bs x) (u : TxId) → StandsIn u f.front → (c : Bool) → same_txn y u ≡ c → (u ≡ b) ⊎ StandsIn u bs
-        keep f u s true e = inl (sym (same_txn-eq y u e) ∙ q)
-        keep f u s false e = inr (f.kept u s (not_from_false (same_txn y u) e))
 
 -- where a decision to commit stands in a history, of which the committed ones are told
 record CommitStands (h : List Note) (before : List TxId) (x : TxId) : Type 0 where
@@ -98,12 +88,14 @@ commit_stands (n ∷ ns) before x after e = go n before e (λ bs k. commit_stand
   where
     more : (n : Note) (bs : List TxId) → commit_in n ≡ None → CommitStands ns bs x → CommitStands (n ∷ ns) bs x
     more n bs none r = record { front = n ∷ r.front; back = r.back; is = ap (λ zs. n ∷ zs) r.is; told = ap (λ o. cons_option o (filter_map commit_in r.front)) none ∙ r.told }
+
     commit : (txn : TxId) (bs : List TxId) → txn ∷ filter_map commit_in ns ≡ bs ++ (x ∷ after) → ((cs : List TxId) → filter_map commit_in ns ≡ cs ++ (x ∷ after) → CommitStands ns cs x) → CommitStands (Decide txn Commit ∷ ns) bs x
     commit txn [] k ih = record { front = []; back = ns; is = let q : txn ≡ x = cc k in ap (λ z. Decide z Commit ∷ ns) q; told = refl }
     commit txn (b ∷ bs) k ih =
         let r : CommitStands ns bs x = ih bs (cc k) in
         let q : txn ≡ b = cc k in
         record { front = Decide txn Commit ∷ r.front; back = r.back; is = ap (λ zs. Decide txn Commit ∷ zs) r.is; told = ap (λ zs. txn ∷ zs) r.told ∙ ap (λ z. z ∷ bs) q }
+
     go : (n : Note) (bs : List TxId) → cons_option (commit_in n) (filter_map commit_in ns) ≡ bs ++ (x ∷ after) → ((cs : List TxId) → filter_map commit_in ns ≡ cs ++ (x ∷ after) → CommitStands ns cs x) → CommitStands (n ∷ ns) bs x
     go (Begin txn payload) bs k ih = more (Begin txn payload) bs refl (ih bs k)
     go (Take txn) bs k ih = more (Take txn) bs refl (ih bs k)
@@ -134,14 +126,13 @@ told-commit (n ∷ ns) txn s = go n s (told-commit ns txn)
     go (Decide other (Abort shard cause)) s ih = inr (ih s)
 
 -- A place in the order: the history before the transaction's first decision to commit, in which those before it in the
--- order, and no others, are decided to commit.
+-- order are decided to commit.
 pub record IsOrdered (h : List Note) (before : List TxId) (txn : TxId) : Type 0 where
   pub earlier : List Note
   pub later : List Note
   pub is : h ≡ earlier ++ (Decide txn Commit ∷ later)
   pub first : StandsIn (Decide txn Commit) earlier → ⊥
   pub committed : (u : TxId) → StandsIn u before → StandsIn (Decide u Commit) earlier
-  pub ordered : (u : TxId) → StandsIn (Decide u Commit) earlier → StandsIn u before
 
 pub is_ordered : (h : List Note) (before : List TxId) (txn : TxId) (after : List TxId) → order_of h ≡ before ++ (txn ∷ after) → IsOrdered h before txn
 is_ordered h before txn after e =
@@ -153,14 +144,4 @@ is_ordered h before txn after e =
       is = c.is;
       first = λ s. f.new (subst (λ zs. StandsIn txn zs) c.told (commit-told c.front txn s));
       committed = λ u s. told-commit c.front u (subst (λ zs. StandsIn u zs) (sym c.told) (f.among u s));
-      ordered = λ u s. f.kept u (subst (λ zs. StandsIn u zs) c.told (commit-told c.front u s));
     }
-
--- whoever is in the order is decided to commit
-first_of_each-among : (xs : List TxId) (x : TxId) → StandsIn x (first_of_each xs) → StandsIn x xs
-first_of_each-among [] x s = absurd s
-first_of_each-among (y ∷ ys) x (inl e) = inl e
-first_of_each-among (y ∷ ys) x (inr s) = inr (first_of_each-among ys x (filter-StandsIn (λ u. not (same_txn y u)) (first_of_each ys) x s).0)
-
-pub order-committed : (h : List Note) (txn : TxId) → StandsIn txn (order_of h) → StandsIn (Decide txn Commit) h
-order-committed h txn s = told-commit h txn (first_of_each-among (filter_map commit_in h) txn s)

@@ -1,7 +1,7 @@
 -- Tests of each element of a list with those before it, and what stands in lists of transactions.
-use Rattle.std.proofs.Common.{◌≡◌, ℕ, Bool, true, false, ◌&&◌, ◌||◌, ◌==◌, List, [], ◌∷◌, ◌++◌, inl, inr, ◌⊎◌, sym, ◌∙◌, ap, subst, refl, append_assoc, append-nil, eqb-true, eq-eqb}
+use Rattle.std.proofs.Common.{◌≡◌, Bool, true, ◌==◌, List, [], ◌∷◌, ◌++◌, inl, inr, sym, ap, subst, refl, append_assoc, append-nil, eq-eqb}
 use Rattle.std.specs.List.{list_all, list_any}
-use Rattle.std.proofs.lemmas.Bool.{and_parts, and_from, or_left, or_right}
+use Rattle.std.proofs.lemmas.Bool.{and_from, or_left, or_right}
 use Rattle.tcs_terms.specs.declared.ids.TxId.{TxId}
 use Rattle.tcs_terms.specs.Logs.{same_txn}
 use Rattle.protocol.specs.Past.{after_past, with_past}
@@ -45,14 +45,6 @@ stands_between [] x s = absurd s
 stands_between (y ∷ ys) x (inl e) = record { before = []; after = ys; is = ap (λ z. z ∷ ys) (sym e) }
 stands_between (y ∷ ys) x (inr s) = let b : StandsBetween x ys = stands_between ys x s in record { before = y ∷ b.before; after = b.after; is = ap (λ zs. y ∷ zs) b.is }
 
--- transactions that a test takes for one are one
-pub same_txn-eq : (a b : TxId) → same_txn a b ≡ true → a ≡ b
-same_txn-eq a b h =
-    let p : ((a.home == b.home) ≡ true) × ((a.seq == b.seq) ≡ true) = and_parts (a.home == b.home) (a.seq == b.seq) h in
-    let home : a.home ≡ b.home = eqb-true a.home b.home p.0 in
-    let seq : a.seq ≡ b.seq = eqb-true a.seq b.seq p.1 in
-    let first : a ≡ record { home = b.home; seq = a.seq } = ap (λ (x : ℕ). record { home = x; seq = a.seq }) home in
-    first ∙ ap (λ (x : ℕ). record { home = b.home; seq = x }) seq
-
+-- a transaction is one with itself
 pub same_txn-self : (a : TxId) → same_txn a a ≡ true
 same_txn-self a = and_from (a.home == a.home) (a.seq == a.seq) (eq-eqb a.home a.home refl) (eq-eqb a.seq a.seq refl)

@@ -3,3 +3,4 @@ pub mod Change
 pub mod Turn
 pub mod Runs
 pub mod Limits
+pub mod Rising

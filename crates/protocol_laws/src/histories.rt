@@ -5,7 +5,7 @@ ghost use Rattle.tcs_terms.specs.declared.inputs.Event.{Event};
 ghost use Rattle.tcs_terms.specs.Setups.{Deployment};
 ghost use Rattle.tcs_laws.specs.Certification.{Tests};
 ghost use Rattle.tcs_laws.specs.Laws.{IsLawful};
-ghost use Rattle.protocol.specs.CorrectHistory.{agrees, is_legal, keeps_time};
+ghost use Rattle.protocol.specs.CorrectHistory.{agrees, is_legal, keeps_time, IsCorrect};
 ghost use Rattle.protocol.specs.Run.{run};
 ghost use Rattle.protocol_laws.specs.Runs.{AreEvents, HandInPayloads};
 
@@ -25,4 +25,11 @@ pub fn legality()
 /// first decisions.
 pub fn real_time()
     ensures { (tests : Tests) (setup : Deployment) (events : List Event) → AreEvents setup events → keeps_time (run tests setup events).history ≡ true }
+{}
+
+/// The history of each run is correct, by a certifier that obeys the laws: the three laws above; an abort by a clash
+/// names another transaction that began before and truly clashes; and an abort of a lost transaction stands after a
+/// take-over of it.
+pub fn correctness()
+    ensures { (tests : Tests) (setup : Deployment) (events : List Event) → IsLawful tests → AreEvents setup events → HandInPayloads events → IsCorrect tests setup.shards (run tests setup events).history }
 {}

@@ -1,6 +1,7 @@
 //! What holds of every run of the protocol.
 #![tactic(auto)]
 
+pub mod copies;
 pub mod histories;
 pub mod invariant;
 pub mod limits;

@@ -1,0 +1,99 @@
+-- Whoever leads, goes on leading and has one row more, without payload, was asked to prepare it without payload.
+use Rattle.std.proofs.Common.{◌≡◌, ℕ, Bool, true, false, cond, if◌then◌else◌, ◌==◌, List, [], ◌∷◌, ◌++◌, map, length, Option, Some, None, sym, ◌∙◌, ap, subst, refl, arith, length-append}
+use Rattle.std.proofs.lemmas.List.{length-map}
+use Rattle.tcs_terms.specs.declared.ids.TxId.{TxId}
+use Rattle.tcs_terms.specs.declared.inputs.Handled.TheVariants.{Acted}
+use Rattle.tcs_terms.specs.declared.inputs.Input.{Input}
+use Rattle.tcs_terms.specs.declared.inputs.Input.TheVariants as inputs
+use Rattle.tcs_terms.specs.declared.logs.Row.{Row}
+use Rattle.tcs_terms.specs.declared.messages.Message.TheVariants.{Prepare}
+use Rattle.tcs_terms.specs.Payloads.{Accesses}
+use Rattle.tcs_terms.specs.Preparations.{Preparation}
+use Rattle.tcs_laws.specs.Certification.{Tests}
+use Rattle.protocol.specs.Log.{undecided, set_mark, marked, mark_of, new_entry}
+use Rattle.protocol.specs.Outcomes.{Out}
+use Rattle.protocol.specs.Records.{Role, NodeRecord}
+use Rattle.protocol.specs.Records.Role.{Fenced, Leader, Follower}
+use Rattle.protocol.specs.ShardRules.{is_leader, is_following}
+use Rattle.protocol_laws.specs.Effect.{Effect, Rests, Certifies, TakesOver, Nudges, Moves, Lowers, Reads, Asks, AnswersAgain, Appends, Votes, Acknowledges, Changes, Learns, Keeps, Accepts, Marks, Promises, Chooses, FindsLow, Leads, Follows, Gathers, FollowsPieces}
+
+-- an input that asks to prepare a transaction without payload, and that acted
+pub record AsksWithout (txn : TxId) (input : Input) (out : Out NodeRecord) : Type 0 where
+  pub from : ℕ
+  pub epoch : ℕ
+  pub shards : List ℕ
+  pub is : input ≡ inputs.Deliver from (Prepare epoch txn shards None)
+  pub acted : out.answer ≡ Acted
+
+-- as many rows are not one more
+more_rows : (rows others : List Row) (entry : Preparation) → length others ≡ length rows → others ≡ rows ++ undecided entry ∷ [] → ⊥
+more_rows rows others entry l h = omega (arith, l, ap length h ∙ length-append rows (undecided entry ∷ []))
+
+pub one_more : (rows : List Row) (entry : Preparation) → rows ≡ rows ++ undecided entry ∷ [] → ⊥
+one_more rows entry h = more_rows rows rows entry refl h
+
+same_last : (rows : List Row) (a b : Preparation) → rows ++ undecided a ∷ [] ≡ rows ++ undecided b ∷ [] → a ≡ b
+same_last [] a b h = let q : undecided a ≡ undecided b = cc h in ap (λ r. r.entry) q
+same_last (r ∷ rs) a b h = same_last rs a b (cc h)
+
+follower : (role : Role) → is_leader role ≡ true → is_following role ≡ true → ⊥
+follower Fenced l f = cc l
+follower (Leader c) l f = cc f
+follower (Follower c) l f = cc l
+
+pub effect-name : (tests : Tests) (version : ℕ) (node : NodeRecord) (input : Input) (out : Out NodeRecord) → Effect tests version node input out → out.kept.name ≡ node.name
+effect-name tests version node i o (Rests input answer notices h) = refl
+effect-name tests version node i o (Certifies payload h case e) = refl
+effect-name tests version node i o (TakesOver txn row a b c d case e) = refl
+effect-name tests version node i o Nudges = refl
+effect-name tests version node i o (Moves shard want) = refl
+effect-name tests version node i o (Lowers shard want epoch probed low a b c) = refl
+effect-name tests version node i o (Reads name a) = refl
+effect-name tests version node i o (Asks shard) = refl
+effect-name tests version node i o (AnswersAgain from epoch txn shards part row a b c d) = refl
+effect-name tests version node i o (Appends from epoch txn shards part a b c d g made e) = refl
+effect-name tests version node i o (Votes from shard epoch x case part view a b c d out g) = refl
+effect-name tests version node i o (Acknowledges from shard epoch slot txn case part view a b c d out g) = refl
+effect-name tests version node i o (Changes from config a) = refl
+effect-name tests version node i o (Learns from config coordinator sent stage asked a b) = refl
+effect-name tests version node i o (Keeps from txn decision a b) = refl
+effect-name tests version node i o (Accepts from epoch x a b t) = refl
+effect-name tests version node i o (Marks from epoch slot txn commit a b) = refl
+effect-name tests version node i o (Promises from epoch a) = refl
+effect-name tests version node i o (Chooses from state shard want epoch probed low a b c) = refl
+effect-name tests version node i o (FindsLow from state shard want epoch probed low a b c) = refl
+effect-name tests version node i o (Leads from config a b c d) = refl
+effect-name tests version node i o (Follows from config rows a b) = refl
+effect-name tests version node i o (Gathers from config number pieces rows gathering a b c d e) = refl
+effect-name tests version node i o (FollowsPieces from config number pieces rows gathering a b c d e) = refl
+
+pub effect_appends : (tests : Tests) (version : ℕ) (node : NodeRecord) (input : Input) (out : Out NodeRecord) (entry : Preparation) → Effect tests version node input out
+    → is_leader node.role ≡ true → out.kept.role ≡ node.role → out.kept.rows ≡ node.rows ++ undecided entry ∷ [] → entry.payload ≡ None → AsksWithout entry.txn input out
+effect_appends tests version node i o entry (Rests input answer notices h) l s more none = absurd (one_more node.rows entry more)
+effect_appends tests version node i o entry (Certifies payload h case e) l s more none = absurd (one_more node.rows entry more)
+effect_appends tests version node i o entry (TakesOver txn row a b c d case e) l s more none = absurd (one_more node.rows entry more)
+effect_appends tests version node i o entry Nudges l s more none = absurd (one_more node.rows entry more)
+effect_appends tests version node i o entry (Moves shard want) l s more none = absurd (one_more node.rows entry more)
+effect_appends tests version node i o entry (Lowers shard want epoch probed low a b c) l s more none = absurd (one_more node.rows entry more)
+effect_appends tests version node i o entry (Reads name a) l s more none = absurd (one_more node.rows entry more)
+effect_appends tests version node i o entry (Asks shard) l s more none = absurd (one_more node.rows entry more)
+effect_appends tests version node i o entry (AnswersAgain from epoch txn shards part row a b c d) l s more none = absurd (one_more node.rows entry more)
+effect_appends tests version node i o entry (Appends from epoch txn shards part a b c d g made e) l s more none =
+    let same : made ≡ entry = same_last node.rows made entry more in
+    let txns : txn ≡ entry.txn = ap (λ x. x.txn) (sym e ∙ same) in
+    let parts : part ≡ None = ap (λ x. x.payload) (sym e ∙ same) ∙ none in
+    record { from = from; epoch = epoch; shards = shards; is = ap (λ x. inputs.Deliver from (Prepare epoch x shards part)) txns ∙ ap (λ x. inputs.Deliver from (Prepare epoch entry.txn shards x)) parts; acted = refl }
+effect_appends tests version node i o entry (Votes from shard epoch x case part view a b c d out g) l s more none = absurd (one_more node.rows entry more)
+effect_appends tests version node i o entry (Acknowledges from shard epoch slot txn case part view a b c d out g) l s more none = absurd (one_more node.rows entry more)
+effect_appends tests version node i o entry (Changes from config a) l s more none = absurd (one_more node.rows entry more)
+effect_appends tests version node i o entry (Learns from config coordinator sent stage asked a b) l s more none = absurd (one_more node.rows entry more)
+effect_appends tests version node i o entry (Keeps from txn decision a b) l s more none = absurd (one_more node.rows entry more)
+effect_appends tests version node i o entry (Accepts from epoch x a b t) l s more none = absurd (follower node.role l a)
+effect_appends tests version node i o entry (Marks from epoch slot txn commit a b) l s more none = absurd (more_rows node.rows (marked node.rows slot (mark_of commit)) entry (length-map node.rows (λ r. if r.entry.slot == slot then set_mark (mark_of commit) r else r)) more)
+effect_appends tests version node i o entry (Promises from epoch a) l s more none = absurd (one_more node.rows entry more)
+effect_appends tests version node i o entry (Chooses from state shard want epoch probed low a b c) l s more none = absurd (one_more node.rows entry more)
+effect_appends tests version node i o entry (FindsLow from state shard want epoch probed low a b c) l s more none = absurd (one_more node.rows entry more)
+effect_appends tests version node i o entry (Leads from config a b c d) l s more none = absurd (cc (l, ap (λ x. is_leader x) b))
+effect_appends tests version node i o entry (Follows from config rows a b) l s more none = absurd (cc (l, ap (λ x. is_leader x) s))
+effect_appends tests version node i o entry (Gathers from config number pieces rows gathering a b c d e) l s more none = absurd (one_more node.rows entry more)
+effect_appends tests version node i o entry (FollowsPieces from config number pieces rows gathering a b c d e) l s more none = absurd (cc (l, ap (λ x. is_leader x) s))
