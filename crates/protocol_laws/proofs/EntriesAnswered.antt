@@ -1,22 +1,18 @@
 -- What is answered, sent to be accepted and acknowledged is listed, or held, at the epoch that is stated.
-use Rattle.std.proofs.Common.{◌≡◌, ℕ, ◌≤◌, ◌<◌, Bool, true, false, cond, not, ◌==◌, List, [], ◌∷◌, ◌++◌, map, filter, find, Option, Some, None, ◌⊎◌, inl, inr, sym, ◌∙◌, ap, subst, subst₂, refl, arith, eqb-true}
-use Rattle.std.specs.Map.{lookup}
+use Rattle.std.proofs.Common.{◌≡◌, ℕ, ◌≤◌, true, not, ◌==◌, List, ◌++◌, Option, Some, None, ◌⊎◌, inl, inr, sym, ◌∙◌, ap, subst, subst₂, refl, eqb-true}
 use Rattle.tcs_terms.specs.declared.ids.TxId.{TxId}
 use Rattle.tcs_terms.specs.declared.inputs.Event.{Event}
 use Rattle.tcs_terms.specs.declared.inputs.Input.{Input}
-use Rattle.tcs_terms.specs.declared.inputs.Input.TheVariants.{Deliver}
 use Rattle.tcs_terms.specs.declared.messages.Message.TheVariants.{PrepareAck, Accept, AcceptAck}
-use Rattle.tcs_terms.specs.Logs.{same_txn}
 use Rattle.tcs_terms.specs.Places.{Membership}
 use Rattle.tcs_terms.specs.Preparations.{Preparation}
 use Rattle.tcs_terms.specs.Setups.{Deployment}
 use Rattle.tcs_laws.specs.Certification.{Tests}
-use Rattle.protocol.specs.Cases.{part_of}
-use Rattle.protocol.specs.Coordination.{case_of, first_entry}
+use Rattle.protocol.specs.Coordination.{first_entry}
 use Rattle.protocol.specs.Invariant.Configurations.{ConfigurationsHold, role_configs, probed_configs, gathered_configs}
 use Rattle.protocol.specs.Invariant.Entries.{ListedAt, HeldAt, PartHolds, CaseHolds}
-use Rattle.protocol.specs.Invariant.Logs.{entries_of, Reached, Held, HasInitial, Listed}
-use Rattle.protocol.specs.Invariant.Promises.{FitsRole, IsOf, PromisesHold}
+use Rattle.protocol.specs.Invariant.Logs.{entries_of, Reached, Listed}
+use Rattle.protocol.specs.Invariant.Promises.{FitsRole, PromisesHold}
 use Rattle.protocol.specs.Invariant.Time.{Moment, goes_to, StandsIn, IsNode, IsStored, WasSent}
 use Rattle.protocol.specs.Records.{Part, Case, Role, NodeRecord}
 use Rattle.protocol.specs.Records.Role.{Fenced, Leader, Follower}
@@ -24,16 +20,16 @@ use Rattle.protocol.specs.ShardRules.{is_leader, is_following}
 use Rattle.protocol.specs.Views.{view_of, followers}
 use Rattle.protocol.specs.World.{Happening}
 use Rattle.protocol.proofs.Lists.{find-StandsIn}
-use Rattle.protocol_laws.specs.Change.{Comes}
-use Rattle.protocol_laws.specs.Effect.{OpenPart}
 use Rattle.protocol_laws.specs.Turn.{Turn, Onward, GrewFrom}
+use Rattle.protocol_laws.proofs.ConfigurationsInputs.{delivered}
 use Rattle.protocol_laws.proofs.Lasting.{is_in-now, held-on, has_initial-on, listed-on}
+use Rattle.protocol_laws.proofs.TransactionsLists.{lookup-StandsIn}
 use Rattle.protocol_laws.proofs.Standing.{StandsIn-left, StandsIn-right, filter-StandsIn}
-use Rattle.protocol_laws.proofs.TransferConfigs.{one_config, some_epoch, member_shard}
+use Rattle.protocol_laws.proofs.Stored.{one_config, stored-some}
+use Rattle.protocol_laws.proofs.TransferConfigs.{member_shard}
 use Rattle.protocol_laws.proofs.TransferEvents.{Acting, effect_name}
-use Rattle.protocol_laws.proofs.TransferGathering.{delivered}
 use Rattle.protocol_laws.proofs.TransferHeld.{leads_it}
-use Rattle.protocol_laws.proofs.TransferSending.{Sending, VotesNow, HasEntry, same_txn-is}
+use Rattle.protocol_laws.proofs.TransferSending.{Sending, VotesNow, HasEntry}
 use Rattle.protocol_laws.proofs.TransferSending.Sending.{Says, Answers, AsksVoted, AsksAgain, Holds}
 use Rattle.protocol_laws.proofs.TransferSent.{sent_how, SentNow}
 
@@ -42,15 +38,6 @@ listed_at-on t u shard epoch x onward l = record { config = l.config; stored = o
 
 pub held_at-on : (t u : Moment) (epoch name slot : ℕ) (txn : TxId) → Onward t u → HeldAt t epoch name slot txn → HeldAt u epoch name slot txn
 held_at-on t u epoch name slot txn onward k = record { entry = k.entry; held = held-on t u epoch name k.entry onward k.held; at_slot = k.at_slot; of_txn = k.of_txn }
-
--- a case that is found is among the cases
-pub case-StandsIn : (txn : TxId) (cases : List (TxId × Case)) (case : Case) → lookup (same_txn txn) cases ≡ Some case → StandsIn (txn, case) cases
-case-StandsIn txn [] case h = absurd (cc h)
-case-StandsIn txn (e ∷ es) case h = go (same_txn txn e.0) refl h (case-StandsIn txn es case)
-  where
-    go : (b : Bool) → same_txn txn e.0 ≡ b → cond b (Some e.1) (lookup (same_txn txn) es) ≡ Some case → (lookup (same_txn txn) es ≡ Some case → StandsIn (txn, case) es) → StandsIn (txn, case) (e ∷ es)
-    go true k f ih = let a : txn ≡ e.0 = same_txn-is txn e.0 k in let b : case ≡ e.1 = cc f in inl (λ i. (a i, b i))
-    go false k f ih = inr (ih f)
 
 -- a node's view of a shard is a stored configuration of the shard
 pub view_stored : (setup : Deployment) (t : Moment) → ConfigurationsHold setup t → (node : NodeRecord) (shard : ℕ) (view : Membership) → IsNode t node → view_of node.coordinator.views shard ≡ Some view → IsStored t view × (view.shard ≡ shard)
@@ -125,7 +112,7 @@ follows_some setup t ct pt node n f = go node.role refl f
         let stored : IsStored t c = ct.in_nodes node c n
         (StandsIn-left (node.coordinator.views ++ role_configs node.role ++ probed_configs node.prober) (gathered_configs node.gathering) c
         (StandsIn-left (node.coordinator.views ++ role_configs node.role) (probed_configs node.prober) c (StandsIn-right node.coordinator.views (role_configs node.role) c among))) in
-        subst (λ k. 1 ≤ k) of.0.epoch (some_epoch setup t ct c stored)
+        subst (λ k. 1 ≤ k) of.0.epoch (stored-some setup t c ct stored)
 
 module _ (tests : Tests) (setup : Deployment) (t : Moment) (event : Event) (h : Happening) (turn : Turn tests setup t event h) (cu : ConfigurationsHold setup (goes_to t h.after)) (onward : Onward t (goes_to t h.after)) where
   abbrev u : Moment
@@ -134,7 +121,7 @@ module _ (tests : Tests) (setup : Deployment) (t : Moment) (event : Event) (h : 
   now_listed : (a : Acting tests setup t event h) (shard epoch : ℕ) (x : Preparation) → AnswersBy a.node a.out.kept shard epoch x → ListedAt u shard epoch x
   now_listed a shard epoch x b =
       let d = leads_it setup t turn.before.configurations a.node a.is turn.before.promises b.leads in
-      let one : 1 ≤ d.0.epoch = some_epoch setup t turn.before.configurations d.0 d.2 in
+      let one : 1 ≤ d.0.epoch = stored-some setup t d.0 turn.before.configurations d.2 in
       let r : Reached t d.0.epoch d.0.leader = record { node = a.node; was = is_in-now t d.0.epoch d.0.leader a.node a.is (sym d.4) (sym d.3.epoch); some = one } in
       record {
         config = d.0;
@@ -168,13 +155,13 @@ module _ (tests : Tests) (setup : Deployment) (t : Moment) (event : Event) (h : 
 
       by : (o : Option Preparation) → v.part.entry ≡ o → IsStored t view × Listed t view x
       by None e =
-          let sent : WasSent t v.from a.node.name (PrepareAck v.shard view.epoch v.answered) = delivered setup t a.node.name event v.from (PrepareAck v.shard view.epoch v.answered) turn.fits (subst (λ (i : Input). Comes t.now a.node.name event i) v.delivers a.comes) in
+          let sent : WasSent t v.from a.node.name (PrepareAck v.shard view.epoch v.answered) = delivered setup t a.node.name event a.input a.comes turn.fits v.from (PrepareAck v.shard view.epoch v.answered) v.delivers in
           let l : ListedAt t v.shard view.epoch v.answered = turn.before.entries.answered v.from a.node.name v.shard view.epoch v.answered sent in
-          let same : l.config ≡ view = one_config setup t turn.before.configurations l.config view l.stored stored.0 (l.of_shard ∙ sym stored.1) l.of_epoch in
+          let same : l.config ≡ view = one_config setup t l.config view turn.before.configurations l.stored stored.0 (l.of_shard ∙ sym stored.1) l.of_epoch in
           let is : v.answered ≡ x = sym (v.is ∙ ap (λ (o : Option Preparation). first_entry o v.answered) e) in
           (stored.0, subst (λ (y : Preparation). Listed t view y) is (subst (λ (d : Membership). Listed t d v.answered) same l.listed))
       by (Some kept) e =
-          let c : CaseHolds t a.node.coordinator.views v.answered.txn v.case = turn.before.entries.cases a.node v.answered.txn v.case a.is (case-StandsIn v.answered.txn a.node.coordinator.cases v.case v.is_open.opened) in
+          let c : CaseHolds t a.node.coordinator.views v.answered.txn v.case = turn.before.entries.cases a.node v.answered.txn v.case a.is (lookup-StandsIn v.answered.txn a.node.coordinator.cases v.case v.is_open.opened) in
           let sees : view_of a.node.coordinator.views v.part.shard ≡ Some view = ap (λ n. view_of a.node.coordinator.views n) (eqb-true v.part.shard v.shard found.1) ∙ v.is_open.sees in
           let is : kept ≡ x = sym (v.is ∙ ap (λ (o : Option Preparation). first_entry o v.answered) e) in
           (stored.0, subst (λ (y : Preparation). Listed t view y) is (voted_part t v.answered.txn a.node.coordinator.views v.part view kept (c.parts v.part found.0) sees e).0)

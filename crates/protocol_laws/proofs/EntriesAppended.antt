@@ -1,5 +1,5 @@
 -- Each listed entry was appended by a leader, to rows that held what is listed below it, with a vote on those rows.
-use Rattle.std.proofs.Common.{◌≡◌, ℕ, ◌+◌, ◌≤◌, ◌<◌, Bool, true, false, List, [], ◌∷◌, ◌++◌, map, Option, Some, None, ◌⊎◌, inl, inr, sym, ◌∙◌, ap, subst, refl, arith}
+use Rattle.std.proofs.Common.{◌≡◌, ℕ, ◌+◌, ◌≤◌, ◌<◌, true, false, List, [], ◌∷◌, ◌++◌, map, ◌⊎◌, inl, inr, sym, ◌∙◌, ap, subst, refl, arith}
 use Rattle.tcs_terms.specs.declared.ids.TxId.{TxId}
 use Rattle.tcs_terms.specs.declared.inputs.Event.{Event}
 use Rattle.tcs_terms.specs.declared.inputs.Note.{Note}
@@ -17,10 +17,10 @@ use Rattle.protocol.specs.Cases.{commits}
 use Rattle.protocol.specs.Invariant.Configurations.{ConfigurationsHold}
 use Rattle.protocol.specs.Invariant.Decisions.{IsBehind, RowHolds}
 use Rattle.protocol.specs.Invariant.Entries.{MarkStands, Appended}
-use Rattle.protocol.specs.Invariant.Logs.{entries_of, Reached, HasInitial, Listed}
+use Rattle.protocol.specs.Invariant.Logs.{entries_of, HasInitial, Listed}
 use Rattle.protocol.specs.Invariant.Promises.{PromisesHold}
-use Rattle.protocol.specs.Invariant.Time.{Moment, goes_to, StandsIn, IsNode}
-use Rattle.protocol.specs.Log.{last_slot, undecided, vote_on_part, mark_of}
+use Rattle.protocol.specs.Invariant.Time.{Moment, goes_to, StandsIn}
+use Rattle.protocol.specs.Log.{last_slot, undecided, vote_on_part}
 use Rattle.protocol.specs.Records.{NodeRecord}
 use Rattle.protocol.specs.World.{Happening}
 use Rattle.protocol_laws.specs.Turn.{Turn, Onward}

@@ -1,7 +1,6 @@
 -- Cases stay well as a node coordinates: as they begin, as a shard votes and acknowledges, and as a view is replaced.
-use Rattle.std.proofs.Common.{◌≡◌, ℕ, Bool, true, false, cond, ◌==◌, List, [], ◌∷◌, ◌++◌, map, find, length, Option, Some, None, ◌⊎◌, inl, inr, sym, ◌∙◌, ap, ap₂, subst, subst₂, refl, eqb-true, eq-eqb}
+use Rattle.std.proofs.Common.{◌≡◌, ℕ, Bool, true, false, cond, ◌==◌, List, [], ◌∷◌, ◌++◌, map, find, Option, Some, None, ◌⊎◌, inl, inr, sym, ◌∙◌, ap, ap₂, subst, refl, eqb-true, eq-eqb}
 use Rattle.std.specs.Prelude.{IsTrue}
-use Rattle.std.specs.Map.{set_value, remove_entry}
 use Rattle.tcs_terms.specs.declared.ids.TxId.{TxId}
 use Rattle.tcs_terms.specs.declared.messages.Outgoing.{Outgoing}
 use Rattle.tcs_terms.specs.Logs.{same_txn, txns_differ}
@@ -9,7 +8,7 @@ use Rattle.tcs_terms.specs.Payloads.{Accesses}
 use Rattle.tcs_terms.specs.Places.{Membership, is_among}
 use Rattle.tcs_terms.specs.Preparations.{Preparation}
 use Rattle.protocol.specs.Cases.{asked, new_case, put_part}
-use Rattle.protocol.specs.Coordination.{begins, with_part, first_entry, voted, voted_at, acknowledged, add_once, ask_again, change_view}
+use Rattle.protocol.specs.Coordination.{begins, with_part, first_entry, voted_at, add_once, ask_again, change_view}
 use Rattle.protocol.specs.Invariant.Entries.{HeldAt, PartHolds, CaseHolds}
 use Rattle.protocol.specs.Invariant.Logs.{Listed}
 use Rattle.protocol.specs.Invariant.Time.{Moment, StandsIn}
@@ -21,9 +20,10 @@ use Rattle.protocol_laws.specs.Effect.{GoesOn}
 use Rattle.protocol_laws.specs.Effect.GoesOn.{Waiting, Decides}
 use Rattle.protocol_laws.specs.Turn.{Onward}
 use Rattle.protocol_laws.proofs.Lasting.{listed-on}
+use Rattle.protocol_laws.proofs.TransactionsLists.{set_value-StandsIn, remove_entry-StandsIn}
 use Rattle.protocol_laws.proofs.Standing.{map-StandsIn, IsMapped}
 use Rattle.protocol_laws.proofs.EntriesAnswered.{held_at-on}
-use Rattle.protocol_laws.proofs.EntriesKeyed.{keys, set-StandsIn, set-keys, remove-StandsIn, remove-differ, added-differ}
+use Rattle.protocol_laws.proofs.EntriesKeyed.{keys, set-keys, remove-differ, added-differ}
 
 -- all cases of a coordinator hold, and there is one of a transaction
 pub record CasesHold (t : Moment) (c : Coordinator) : Type 0 where
@@ -70,14 +70,14 @@ begins-holds t c txn case h new none = record {
 -- cases hold after one of them went on
 pub goes_on-holds : (t : Moment) (c : Coordinator) (txn : TxId) (case : Case) (sends : List Outgoing) (out : Out Coordinator) → CasesHold t c → CaseHolds t c.views txn case → GoesOn c txn case sends out → CasesHold t out.kept
 goes_on-holds t c txn case sends out h new (Waiting w) = record {
-  each = λ k v s. (elim (set-StandsIn txn c.cases case k v s) [
+  each = λ k v s. (elim (set_value-StandsIn txn c.cases case (k, v) s) [
     | inl old ↦ h.each k v old
-    | inr e ↦ subst₂ (λ (a : TxId) (b : Case). CaseHolds t c.views a b) (sym e.0) (sym e.1) new
+    | inr e ↦ subst (λ (q : TxId × Case). CaseHolds t c.views q.0 q.1) (sym e) new
   ]);
   one = subst (λ ts. txns_differ ts ≡ true) (sym (set-keys txn c.cases case)) h.one;
 }
 goes_on-holds t c txn case sends out h new (Decides d) = record {
-  each = λ k v s. h.each k v (remove-StandsIn (same_txn txn) c.cases (k, v) s);
+  each = λ k v s. h.each k v (remove_entry-StandsIn txn c.cases (k, v) s);
   one = remove-differ (same_txn txn) c.cases h.one;
 }
 

@@ -1,41 +1,38 @@
 -- One event keeps the cases of each node.
-use Rattle.std.proofs.Common.{◌≡◌, ℕ, ◌+◌, ◌<◌, ◌≤◌, Bool, true, false, ◌==◌, List, [], ◌∷◌, map, Option, Some, None, ◌⊎◌, inl, inr, sym, ◌∙◌, ap, subst, refl, arith, eqb-true}
-use Rattle.std.specs.Prelude.{IsTrue}
-use Rattle.std.specs.Map.{lookup}
+use Rattle.std.proofs.Common.{◌≡◌, ℕ, ◌<◌, ◌==◌, List, Some, inl, inr, sym, ◌∙◌, ap, subst, refl, arith, eqb-true}
 use Rattle.tcs_terms.specs.declared.ids.TxId.{TxId}
 use Rattle.tcs_terms.specs.declared.inputs.Event.{Event}
 use Rattle.tcs_terms.specs.declared.inputs.Input.{Input}
 use Rattle.tcs_terms.specs.declared.inputs.Input.TheVariants.{Deliver}
 use Rattle.tcs_terms.specs.declared.messages.Message.TheVariants.{PrepareAck, AcceptAck}
 use Rattle.tcs_terms.specs.declared.messages.Outgoing.{Outgoing}
-use Rattle.tcs_terms.specs.Logs.{txns_differ}
 use Rattle.tcs_terms.specs.Places.{Membership}
 use Rattle.tcs_terms.specs.Preparations.{Preparation}
 use Rattle.tcs_terms.specs.Setups.{Deployment}
 use Rattle.tcs_laws.specs.Certification.{Tests}
 use Rattle.protocol.specs.ClientRules.{next_txn}
-use Rattle.protocol.specs.Coordination.{first_entry, voted, acknowledged, with_part}
+use Rattle.protocol.specs.Coordination.{first_entry, voted, acknowledged}
 use Rattle.protocol.specs.Invariant.Configurations.{ConfigurationsHold}
 use Rattle.protocol.specs.Invariant.Entries.{HeldAt, PartHolds, CaseHolds}
 use Rattle.protocol.specs.Invariant.Logs.{Listed}
-use Rattle.protocol.specs.Invariant.Time.{Moment, goes_to, StandsIn, IsNode, WasSent}
+use Rattle.protocol.specs.Invariant.Time.{Moment, goes_to, StandsIn, IsNode}
 use Rattle.protocol.specs.Invariant.Transactions.{CaseFits}
 use Rattle.protocol.specs.Outcomes.{Out}
 use Rattle.protocol.specs.Records.{Part, Case, Coordinator, NodeRecord}
 use Rattle.protocol.specs.Views.{view_of}
 use Rattle.protocol.specs.World.{Happening}
 use Rattle.protocol.proofs.Lists.{find-StandsIn}
-use Rattle.protocol_laws.specs.Change.{Comes}
 use Rattle.protocol_laws.specs.Effect.{Effect, OpenPart, Sees}
 use Rattle.protocol_laws.specs.Effect.Effect.{Rests, Certifies, TakesOver, Votes, Acknowledges, Changes, Learns}
 use Rattle.protocol_laws.specs.Effect.Sees.{Replaces, Keeps}
 use Rattle.protocol_laws.specs.Turn.{Turn, Onward}
-use Rattle.protocol_laws.proofs.EntriesAnswered.{asked_listed, case-StandsIn}
+use Rattle.protocol_laws.proofs.ConfigurationsInputs.{delivered}
+use Rattle.protocol_laws.proofs.EntriesAnswered.{asked_listed}
 use Rattle.protocol_laws.proofs.EntriesCases.{CasesHold, cases-on, new_case-holds, begins-holds, goes_on-holds, with_part-holds, voted-holds, acknowledged-holds, change_view-holds}
 use Rattle.protocol_laws.proofs.EntriesKeyed.{keys, lookup-none-StandsIn}
+use Rattle.protocol_laws.proofs.TransactionsLists.{lookup-StandsIn}
 use Rattle.protocol_laws.proofs.Standing.{map-StandsIn, IsMapped}
-use Rattle.protocol_laws.proofs.TransferEvents.{node_back, IsOfActing, Acting}
-use Rattle.protocol_laws.proofs.TransferGathering.{delivered}
+use Rattle.protocol_laws.proofs.TransferEvents.{node_back, Acting}
 use Rattle.protocol_laws.proofs.TransferSending.{VotesNow}
 
 -- the part that an answer is about, and its view
@@ -46,7 +43,7 @@ record PartOpen (t : Moment) (c : Coordinator) (txn : TxId) (case : Case) (part 
 
 part_open : (t : Moment) (c : Coordinator) (txn : TxId) (shard : ℕ) (case : Case) (part : Part) (view : Membership) → CasesHold t c → OpenPart c txn shard case part view → PartOpen t c txn case part view
 part_open t c txn shard case part view h o =
-    let k : CaseHolds t c.views txn case = h.each txn case (case-StandsIn txn c.cases case o.opened) in
+    let k : CaseHolds t c.views txn case = h.each txn case (lookup-StandsIn txn c.cases case o.opened) in
     let f = find-StandsIn (λ (p : Part). p.shard == shard) case.parts part o.has in
     record { case_holds = k; part_holds = k.parts part f.0; sees = ap (λ s. view_of c.views s) (eqb-true part.shard shard f.1) ∙ o.sees }
 
@@ -105,7 +102,7 @@ module _ (tests : Tests) (setup : Deployment) (t : Moment) (event : Event) (h : 
     fresh = not_yet a.node a.is;
     votes = λ view x v. (asked_listed tests setup t event h turn cu onward a view x (inl v)).1;
     acks = λ from shard epoch slot txn e. turn.before.entries.acknowledged from a.node.name shard epoch slot txn
-        (delivered setup t a.node.name event from (AcceptAck shard epoch slot txn) turn.fits (subst (λ (i : Input). Comes t.now a.node.name event i) e a.comes));
+        (delivered setup t a.node.name event a.input a.comes turn.fits from (AcceptAck shard epoch slot txn) e);
   }
 
   pub cases_then : (node : NodeRecord) → IsNode u node → CasesHold u node.coordinator

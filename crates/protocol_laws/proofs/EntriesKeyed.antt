@@ -1,28 +1,18 @@
 -- Cases by transaction: what stands among them after one is set, removed or added.
-use Rattle.std.proofs.Common.{◌≡◌, Bool, true, false, cond, not, ◌&&◌, ◌||◌, List, [], ◌∷◌, ◌++◌, map, Option, Some, None, ◌⊎◌, inl, inr, sym, ◌∙◌, ap, subst, refl}
+use Rattle.std.proofs.Common.{◌≡◌, Bool, true, false, cond, not, ◌||◌, List, [], ◌∷◌, ◌++◌, map, Some, None, ◌⊎◌, inl, inr, sym, ◌∙◌, ap, refl}
 use Rattle.std.specs.Map.{lookup, set_value, remove_entry}
 use Rattle.std.specs.List.{list_any}
 use Rattle.tcs_terms.specs.declared.ids.TxId.{TxId}
 use Rattle.tcs_terms.specs.Logs.{same_txn, txns_differ}
 use Rattle.tcs_terms.proofs.BoolLaws.{both, left_of, right_of, not_false}
 use Rattle.protocol.specs.Invariant.Time.{StandsIn}
-use Rattle.protocol_laws.proofs.TransferAscending.{same_txn-refl}
-use Rattle.protocol_laws.proofs.TransferSending.{same_txn-is}
+use Rattle.protocol_laws.proofs.PromisesOrder.{same_txn-refl}
+use Rattle.protocol_laws.proofs.TransactionsLists.{same_txn-eq}
 
 abbrev pub keys : {X : Type 0} → List (TxId × X) → List TxId
 keys es = map (λ e. e.0) es
 
--- after one is set: an old one, or the new one
-pub set-StandsIn : {X : Type 0} (txn : TxId) (es : List (TxId × X)) (w : X) (k : TxId) (v : X) → StandsIn (k, v) (set_value (same_txn txn) es w) → StandsIn (k, v) es ⊎ ((k ≡ txn) × (v ≡ w))
-set-StandsIn txn [] w k v s = absurd s
-set-StandsIn {X} txn (e ∷ es) w k v s = go (same_txn txn e.0) refl s (set-StandsIn txn es w k v)
-  where
-    go : (b : Bool) → same_txn txn e.0 ≡ b → StandsIn (k, v) (cond b ((e.0, w) ∷ es) (e ∷ set_value (same_txn txn) es w)) → (StandsIn (k, v) (set_value (same_txn txn) es w) → StandsIn (k, v) es ⊎ ((k ≡ txn) × (v ≡ w))) → StandsIn (k, v) (e ∷ es) ⊎ ((k ≡ txn) × (v ≡ w))
-    go true f (inl p) ih = inr (ap (λ (q : TxId × X). q.0) p ∙ sym (same_txn-is txn e.0 f), ap (λ (q : TxId × X). q.1) p)
-    go true f (inr p) ih = inl (inr p)
-    go false f (inl p) ih = inl (inl p)
-    go false f (inr p) ih = elim (ih p) [ inl q ↦ inl (inr q) | inr q ↦ inr q ]
-
+-- transactions stay as one is set
 pub set-keys : {X : Type 0} (txn : TxId) (es : List (TxId × X)) (w : X) → keys (set_value (same_txn txn) es w) ≡ keys es
 set-keys txn [] w = refl
 set-keys {X} txn (e ∷ es) w = go (same_txn txn e.0) (set-keys txn es w)
@@ -30,16 +20,6 @@ set-keys {X} txn (e ∷ es) w = go (same_txn txn e.0) (set-keys txn es w)
     go : (b : Bool) → keys (set_value (same_txn txn) es w) ≡ keys es → keys (cond b ((e.0, w) ∷ es) (e ∷ set_value (same_txn txn) es w)) ≡ keys (e ∷ es)
     go true ih = refl
     go false ih = ap (λ ks. e.0 ∷ ks) ih
-
--- after one is removed: an old one
-pub remove-StandsIn : {X : Type 0} (test : TxId → Bool) (es : List (TxId × X)) (x : TxId × X) → StandsIn x (remove_entry test es) → StandsIn x es
-remove-StandsIn test [] x s = absurd s
-remove-StandsIn {X} test (e ∷ es) x s = go (test e.0) s (remove-StandsIn test es x)
-  where
-    go : (b : Bool) → StandsIn x (cond b es (e ∷ remove_entry test es)) → (StandsIn x (remove_entry test es) → StandsIn x es) → StandsIn x (e ∷ es)
-    go true p ih = inr p
-    go false (inl p) ih = inl p
-    go false (inr p) ih = inr (ih p)
 
 none_removed : {X : Type 0} (test p : TxId → Bool) (es : List (TxId × X)) → list_any p (keys es) ≡ false → list_any p (keys (remove_entry test es)) ≡ false
 none_removed test p [] h = refl
@@ -74,7 +54,7 @@ not_same : (t txn : TxId) → (t ≡ txn → ⊥) → same_txn t txn ≡ false
 not_same t txn n = go (same_txn t txn) refl
   where
     go : (b : Bool) → same_txn t txn ≡ b → b ≡ false
-    go true e = absurd (n (same_txn-is t txn e))
+    go true e = absurd (n (same_txn-eq t txn e))
     go false e = refl
 
 -- transactions differ with a new one at the end

@@ -1,6 +1,6 @@
 -- How an entry comes into a list: with the rows of a new leader, or as its leader appends it. Each slot and each
 -- transaction stands there once.
-use Rattle.std.proofs.Common.{◌≡◌, ℕ, ◌≤◌, ◌<◌, List, [], ◌∷◌, ◌++◌, ◌⊎◌, inl, inr, sym, ◌∙◌, ap, subst, refl, arith, eq-or-lt_of_le}
+use Rattle.std.proofs.Common.{◌≡◌, ℕ, ◌≤◌, ◌<◌, [], ◌∷◌, ◌++◌, ◌⊎◌, inl, inr, sym, ◌∙◌, ap, subst, refl, eq-or-lt_of_le}
 use Rattle.tcs_terms.specs.declared.inputs.Event.{Event}
 use Rattle.tcs_terms.specs.Places.{Membership}
 use Rattle.tcs_terms.specs.Preparations.{Preparation}
@@ -8,9 +8,9 @@ use Rattle.tcs_terms.specs.Setups.{Deployment}
 use Rattle.tcs_laws.specs.Certification.{Tests}
 use Rattle.protocol.specs.Invariant.Choice.{IsChosen}
 use Rattle.protocol.specs.Invariant.Configurations.{ConfigurationsHold}
-use Rattle.protocol.specs.Invariant.Logs.{entries_of, Reached, Held, Initial, HasInitial, Listed}
+use Rattle.protocol.specs.Invariant.Logs.{entries_of, Held, Initial, HasInitial, Listed}
 use Rattle.protocol.specs.Invariant.Promises.{PromisesHold, IsMemberAt}
-use Rattle.protocol.specs.Invariant.Time.{Moment, goes_to, StandsIn, IsNode, IsStored}
+use Rattle.protocol.specs.Invariant.Time.{Moment, goes_to, StandsIn, IsNode}
 use Rattle.protocol.specs.Log.{undecided}
 use Rattle.protocol.specs.Records.{NodeRecord}
 use Rattle.protocol.specs.Records.Role.{Leader}
@@ -18,7 +18,8 @@ use Rattle.protocol.specs.World.{Happening}
 use Rattle.protocol_laws.specs.Turn.{Turn, Onward}
 use Rattle.protocol_laws.proofs.Lasting.{is_in-now}
 use Rattle.protocol_laws.proofs.EntriesRows.{rows-slot, rows-txn}
-use Rattle.protocol_laws.proofs.TransferConfigs.{some_epoch, leads_member}
+use Rattle.protocol_laws.proofs.Stored.{stored-some}
+use Rattle.protocol_laws.proofs.TransferConfigs.{leads_member}
 use Rattle.protocol_laws.proofs.TransferEnters.{LeadsAs, Leading, Following}
 use Rattle.protocol_laws.proofs.TransferHandedOn.{leader_state}
 use Rattle.protocol_laws.proofs.TransferHeld.{Appending, Gains, held_how}
@@ -54,7 +55,7 @@ module _ (tests : Tests) (setup : Deployment) (t : Moment) (event : Event) (h : 
 
   -- a new leader is of an epoch above the first
   later_epoch : (c : Membership) → Leading t u c → 1 < c.epoch
-  later_epoch c l = by (eq-or-lt_of_le (some_epoch setup t turn.before.configurations c l.stored))
+  later_epoch c l = by (eq-or-lt_of_le (stored-some setup t c turn.before.configurations l.stored))
     where
       by : (1 ≡ c.epoch) ⊎ (1 < c.epoch) → 1 < c.epoch
       by (inl e) = absurd (no_initial tests setup t event h turn c l ([], record { stored = l.stored; begun = inl (sym e, refl) }))

@@ -1,5 +1,5 @@
 -- Rows of a log: an entry is found by its slot, and by its transaction.
-use Rattle.std.proofs.Common.{◌≡◌, ℕ, ◌<◌, ◌≤◌, ◌==◌, Bool, true, false, nat_lt, List, [], ◌∷◌, ◌++◌, map, find, Option, Some, None, inl, inr, sym, ◌∙◌, ap, subst, refl, arith, ltb-true}
+use Rattle.std.proofs.Common.{◌≡◌, ℕ, ◌<◌, ◌≤◌, true, false, nat_lt, List, [], ◌∷◌, map, Some, None, inl, inr, sym, ◌∙◌, ap, subst, refl, arith, ltb-true}
 use Rattle.std.specs.List.{last_or}
 use Rattle.tcs_terms.specs.declared.ids.TxId.{TxId}
 use Rattle.tcs_terms.specs.declared.logs.Row.{Row}
@@ -10,8 +10,9 @@ use Rattle.tcs_terms.proofs.BoolLaws.{left_of, right_of}
 use Rattle.protocol.specs.Invariant.Logs.{entries_of}
 use Rattle.protocol.specs.Invariant.Time.{StandsIn}
 use Rattle.protocol.specs.Log.{row_of, slot_or_zero, last_slot}
+use Rattle.protocol_laws.proofs.PromisesOrder.{same_txn-refl}
 use Rattle.protocol_laws.proofs.Standing.{map-StandsIn, IsMapped, find-none}
-use Rattle.protocol_laws.proofs.TransferAscending.{ascending-one, txns-one, same_txn-refl}
+use Rattle.protocol_laws.proofs.TransferAscending.{ascending-one, txns-one}
 
 abbrev slot_of : Row → ℕ
 slot_of r = r.entry.slot

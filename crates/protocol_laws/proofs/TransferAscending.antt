@@ -1,11 +1,13 @@
 -- Lists whose keys ascend or differ: an element is found by its key.
-use Rattle.std.proofs.Common.{◌≡◌, ℕ, ◌<◌, ◌≤◌, Bool, true, false, not, ◌&&◌, ◌||◌, ◌==◌, nat_lt, List, [], ◌∷◌, map, inl, inr, sym, ◌∙◌, ap, subst, refl, arith, ltb-true, eq-eqb}
+use Rattle.std.proofs.Common.{◌≡◌, ℕ, ◌<◌, true, false, not, nat_lt, List, [], ◌∷◌, map, inl, inr, sym, ◌∙◌, ap, refl, arith, ltb-true}
 use Rattle.std.specs.List.{list_any}
 use Rattle.tcs_terms.specs.declared.ids.TxId.{TxId}
 use Rattle.tcs_terms.specs.Logs.{same_txn, txns_differ}
 use Rattle.tcs_terms.specs.Order.{ascends}
-use Rattle.tcs_terms.proofs.BoolLaws.{both, left_of, right_of, not_false}
+use Rattle.tcs_terms.proofs.BoolLaws.{left_of, right_of, not_false}
 use Rattle.protocol.specs.Invariant.Time.{StandsIn}
+use Rattle.protocol_laws.proofs.PromisesOrder.{same_txn-refl}
+use Rattle.protocol_laws.proofs.WithPast.{any-from}
 use Rattle.protocol_laws.proofs.Standing.{StandsIn-map}
 
 pub tail-ascends : {X : Type 0} (f : X → ℕ) (x : X) (xs : List X) → ascends (map f (x ∷ xs)) ≡ true → ascends (map f xs) ≡ true
@@ -30,23 +32,10 @@ ascending-one f (x ∷ xs) a b up (inl p) (inr q) e = absurd (let k : f x < f b 
 ascending-one f (x ∷ xs) a b up (inr p) (inl q) e = absurd (let k : f x < f a = tail-above f x xs a up p in let m : f b ≡ f x = ap f q in omega (arith, k, m, e))
 ascending-one f (x ∷ xs) a b up (inr p) (inr q) e = ascending-one f xs a b (tail-ascends f x xs up) p q e
 
-pub same_txn-refl : (t : TxId) → same_txn t t ≡ true
-same_txn-refl t = both (t.home == t.home) (t.seq == t.seq) (eq-eqb t.home t.home refl) (eq-eqb t.seq t.seq refl)
-
--- a test passes for some element of a list
-pub any-StandsIn : {X : Type 0} (p : X → Bool) (xs : List X) (x : X) → StandsIn x xs → p x ≡ true → list_any p xs ≡ true
-any-StandsIn p [] x s h = absurd s
-any-StandsIn p (y ∷ ys) x (inl e) h = let k : p y ≡ true = ap p (sym e) ∙ h in rw k refl
-any-StandsIn p (y ∷ ys) x (inr s) h = go (p y) (any-StandsIn p ys x s h)
-  where
-    go : (b : Bool) → list_any p ys ≡ true → (b || list_any p ys) ≡ true
-    go true k = refl
-    go false k = k
-
 -- a transaction that stands first stands nowhere else
 txn_apart : {X : Type 0} (f : X → TxId) (x : X) (xs : List X) (y : X) → txns_differ (map f (x ∷ xs)) ≡ true → StandsIn y xs → f y ≡ f x → ⊥
 txn_apart f x xs y d s e =
-    let k : list_any (same_txn (f x)) (map f xs) ≡ true = any-StandsIn (same_txn (f x)) (map f xs) (f y) (StandsIn-map f xs y s) (ap (same_txn (f x)) e ∙ same_txn-refl (f x)) in
+    let k : list_any (same_txn (f x)) (map f xs) ≡ true = any-from (same_txn (f x)) (map f xs) (f y) (StandsIn-map f xs y s) (ap (same_txn (f x)) e ∙ same_txn-refl (f x)) in
     let m : list_any (same_txn (f x)) (map f xs) ≡ false = not_false (list_any (same_txn (f x)) (map f xs)) (left_of (not (list_any (same_txn (f x)) (map f xs))) (txns_differ (map f xs)) d) in
     cc (k, m)
 

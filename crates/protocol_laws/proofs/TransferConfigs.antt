@@ -1,32 +1,21 @@
 -- Stored configurations: one for each shard and epoch, from epoch 1 on, and their members' shard.
-use Rattle.std.proofs.Common.{◌≡◌, ℕ, zero, suc, ◌+◌, ◌-◌, ◌<◌, ◌≤◌, Bool, true, false, ◌&&◌, ◌==◌, List, [], ◌∷◌, map, filter, length, slice_index, nat_le, Some, None, inl, inr, sym, ◌∙◌, ap, subst, refl, arith, eqb-true, eq-eqb, leb-true}
-use Rattle.std.specs.List.{range_with_len, list_all}
+use Rattle.std.proofs.Common.{◌≡◌, ℕ, zero, suc, ◌+◌, ◌-◌, ◌<◌, ◌≤◌, true, ◌==◌, List, [], ◌∷◌, filter, length, slice_index, Some, inl, inr, sym, ◌∙◌, ap, refl, arith, eqb-true, eq-eqb}
 use Rattle.tcs_terms.specs.Places.{Membership}
 use Rattle.tcs_terms.specs.Setups.{Deployment, has_node, is_node_of}
-use Rattle.tcs_terms.proofs.BoolLaws.{left_of, right_of}
-use Rattle.protocol.specs.Invariant.Configurations.{ConfigurationsHold, epochs_of}
+use Rattle.tcs_terms.proofs.BoolLaws.{right_of}
+use Rattle.protocol.specs.Invariant.Configurations.{ConfigurationsHold}
 use Rattle.protocol.specs.Invariant.Time.{Moment, StandsIn, IsNode, IsStored}
 use Rattle.protocol.specs.Records.{NodeRecord}
 use Rattle.protocol.specs.Service.{last_config, last_epoch}
 use Rattle.protocol.specs.Views.{epoch_of}
 use Rattle.protocol.proofs.Lists.{all-StandsIn, among-StandsIn}
-use Rattle.protocol_laws.proofs.Numbered.{AreNumbered, numbered-above, numbered-one}
+use Rattle.protocol_laws.proofs.Numbered.{AreNumbered, numbered-index}
 use Rattle.protocol_laws.proofs.Standing.{StandsIn-filter}
 use Rattle.protocol_laws.proofs.TransferEvents.{IsNext}
 
 -- a stored configuration among those of its shard
 of_its_shard : (t : Moment) (c : Membership) (shard : ℕ) → IsStored t c → c.shard ≡ shard → StandsIn c (filter (λ (d : Membership). d.shard == shard) t.now.configs)
 of_its_shard t c shard s e = StandsIn-filter (λ (d : Membership). d.shard == shard) t.now.configs c s (eq-eqb c.shard shard e)
-
--- two of one shard and epoch are one
-pub one_config : (setup : Deployment) (t : Moment) → ConfigurationsHold setup t → (a b : Membership) → IsStored t a → IsStored t b → a.shard ≡ b.shard → a.epoch ≡ b.epoch → a ≡ b
-one_config setup t h a b p q s e =
-    numbered-one (λ (d : Membership). d.epoch) (filter (λ (d : Membership). d.shard == b.shard) t.now.configs) 1 (last_epoch t.now.configs b.shard) a b (h.epochs b.shard) (of_its_shard t a b.shard p s) (of_its_shard t b b.shard q refl) e
-
--- its epoch is at least 1
-pub some_epoch : (setup : Deployment) (t : Moment) → ConfigurationsHold setup t → (c : Membership) → IsStored t c → 1 ≤ c.epoch
-some_epoch setup t h c s =
-    numbered-above (λ (d : Membership). d.epoch) (filter (λ (d : Membership). d.shard == c.shard) t.now.configs) 1 (last_epoch t.now.configs c.shard) c (h.epochs c.shard) (of_its_shard t c c.shard s refl)
 
 numbered-below : {X : Type 0} (f : X → ℕ) (xs : List X) (from count : ℕ) (x : X) → AreNumbered f xs from count → StandsIn x xs → f x < from + count
 numbered-below f [] from count x h s = absurd s
@@ -47,26 +36,12 @@ next_above setup t h c new s n e =
     let low : c.epoch ≤ n.last.epoch = upto_last setup t h c n.last s (ap (λ s. last_config t.now.configs s) e ∙ n.is_last) in
     omega (arith, low, n.epoch)
 
-shard_at : (nodes : List NodeRecord) (from count : ℕ) (node : NodeRecord) → AreNumbered (λ (n : NodeRecord). n.name) nodes from count → StandsIn node nodes → slice_index (map (λ (n : NodeRecord). n.shard) nodes) (node.name - from) ≡ node.shard
-shard_at [] from count node h s = absurd s
-shard_at (n ∷ ns) from zero node h s = absurd (cc h)
-shard_at (n ∷ ns) from (suc count) node h (inl e) =
-    let k : n.name ≡ from = cc h in
-    let m : node.name ≡ from = ap (λ (x : NodeRecord). x.name) e ∙ k in
-    let z : node.name - from ≡ 0 = omega (arith, m) in
-    rw z (ap (λ (x : NodeRecord). x.shard) (sym e))
-shard_at (n ∷ ns) from (suc count) node h (inr s) =
-    let tail : AreNumbered (λ (n : NodeRecord). n.name) ns (from + 1) count = cc h in
-    let above : from + 1 ≤ node.name = numbered-above (λ (n : NodeRecord). n.name) ns (from + 1) count node tail s in
-    let z : node.name - from ≡ suc (node.name - (from + 1)) = omega (arith, above) in
-    rw z (shard_at ns (from + 1) count node tail s)
-
 -- a node that is a member is of the shard
 pub member_shard : (setup : Deployment) (t : Moment) → ConfigurationsHold setup t → (c : Membership) (node : NodeRecord) → IsStored t c → IsNode t node → StandsIn node.name c.members → node.shard ≡ c.shard
 member_shard setup t h c node s n m =
     let of : is_node_of setup.nodes c.shard node.name ≡ true = all-StandsIn (is_node_of setup.nodes c.shard) c.members node.name (h.members c s).nodes m in
     let is : slice_index setup.nodes (node.name - 1) ≡ c.shard = eqb-true (slice_index setup.nodes (node.name - 1)) c.shard (right_of (has_node setup.nodes node.name) (slice_index setup.nodes (node.name - 1) == c.shard) of) in
-    sym (shard_at t.now.nodes 1 (length setup.nodes) node h.names n) ∙ (rw h.shards is)
+    sym (numbered-index (λ (n : NodeRecord). n.name) (λ (n : NodeRecord). n.shard) t.now.nodes 1 (length setup.nodes) node h.names n) ∙ (rw h.shards is)
 
 -- the leader is a member
 pub leads_member : (setup : Deployment) (t : Moment) → ConfigurationsHold setup t → (c : Membership) → IsStored t c → StandsIn c.leader c.members

@@ -1,37 +1,29 @@
 -- How a node comes to a new epoch: it leads one with the rows that it has, or follows one with the initial entries.
-use Rattle.std.proofs.Common.{◌≡◌, ℕ, ◌<◌, ◌≤◌, Bool, true, false, List, ◌++◌, Option, Some, None, ◌⊎◌, inl, inr, sym, ◌∙◌, ap, subst, refl, arith}
+use Rattle.std.proofs.Common.{◌≡◌, ℕ, ◌<◌, ◌≤◌, true, List, Option, None, ◌⊎◌, inl, inr, sym, ◌∙◌, ap, subst, refl, arith}
 use Rattle.tcs_terms.specs.declared.inputs.Event.{Event}
 use Rattle.tcs_terms.specs.declared.inputs.Input.{Input}
 use Rattle.tcs_terms.specs.declared.inputs.Input.TheVariants.{Deliver}
 use Rattle.tcs_terms.specs.declared.logs.Row.{Row}
-use Rattle.tcs_terms.specs.declared.messages.Message.{Message}
 use Rattle.tcs_terms.specs.declared.messages.Message.TheVariants.{NewConfig, NewState, StatePiece}
-use Rattle.tcs_terms.specs.Places.{Membership, is_among}
+use Rattle.tcs_terms.specs.Places.{Membership}
 use Rattle.tcs_terms.specs.Setups.{Deployment}
 use Rattle.tcs_laws.specs.Certification.{Tests}
-use Rattle.protocol.specs.Invariant.{InvariantHolds}
-use Rattle.protocol.specs.Invariant.Configurations.{ConfigurationsHold, role_configs, probed_configs, gathered_configs, configs_of}
-use Rattle.protocol.specs.Invariant.Logs.{entries_of, Reached, Initial}
-use Rattle.protocol.specs.Invariant.Promises.{PromisesHold, FitsRole}
-use Rattle.protocol.specs.Invariant.Time.{Moment, goes_to, StandsIn, IsNode, IsStored, WasSent}
+use Rattle.protocol.specs.Invariant.Logs.{entries_of, Initial}
+use Rattle.protocol.specs.Invariant.Promises.{FitsRole}
+use Rattle.protocol.specs.Invariant.Time.{Moment, goes_to, IsNode, IsStored, WasSent}
 use Rattle.protocol.specs.Outcomes.{Out}
 use Rattle.protocol.specs.Pieces.{rows_of, with_one_more, is_whole, takes_piece, gathering_for}
 use Rattle.protocol.specs.Records.{Role, Gathering, NodeRecord}
 use Rattle.protocol.specs.Records.Role.{Fenced, Leader, Follower}
-use Rattle.protocol.specs.ShardRules.{follows, least}
-use Rattle.protocol.specs.Views.{is_follower}
+use Rattle.protocol.specs.ShardRules.{follows}
 use Rattle.protocol.specs.World.{Happening}
-use Rattle.protocol.proofs.Lists.{among-StandsIn}
-use Rattle.protocol_laws.specs.Change.{Comes}
 use Rattle.protocol_laws.specs.Effect.{Effect, MayFollow}
 use Rattle.protocol_laws.specs.Effect.Effect.{Rests, Leads, Follows, FollowsPieces}
-use Rattle.protocol_laws.specs.Turn.{Turn, Onward}
-use Rattle.protocol_laws.proofs.Lasting.{IsIn, reached-back, is_in-now}
-use Rattle.protocol_laws.proofs.Standing.{StandsIn-left, StandsIn-right}
-use Rattle.protocol_laws.proofs.TransferConfigs.{one_config, some_epoch, member_shard, leads_member}
-use Rattle.protocol_laws.proofs.TransferEvents.{node_back, IsOfActing, Acting, effect_name, effect_shard}
-use Rattle.protocol_laws.proofs.TransferGathering.{delivered, gathered, whole-Initial, IsGathered}
-use Rattle.tcs_terms.proofs.BoolLaws.{left_of}
+use Rattle.protocol_laws.specs.Turn.{Turn}
+use Rattle.protocol_laws.proofs.ConfigurationsInputs.{delivered}
+use Rattle.protocol_laws.proofs.Stored.{stored-some}
+use Rattle.protocol_laws.proofs.TransferEvents.{Acting, effect_name, effect_shard}
+use Rattle.protocol_laws.proofs.TransferGathering.{gathered, whole-Initial}
 
 -- a node becomes leader of a configuration
 pub record BecomesLeader (node : NodeRecord) (input : Input) (new : NodeRecord) : Type 0 where
@@ -134,7 +126,7 @@ fenced_below node role epoch is e f p one = go (subst (λ r. FitsRole node r) e 
 
 pub leading_of : (tests : Tests) (setup : Deployment) (t : Moment) (event : Event) (h : Happening) → Turn tests setup t event h → (a : Acting tests setup t event h) (b : BecomesLeader a.node a.input a.out.kept) → LeadsAs t (goes_to t h.after) b.config a.out.kept
 leading_of tests setup t event h turn a b =
-    let told : WasSent t b.from a.node.name (NewConfig b.config) = delivered setup t a.node.name event b.from (NewConfig b.config) turn.fits (subst (λ (i : Input). Comes t.now a.node.name event i) b.delivers a.comes) in
+    let told : WasSent t b.from a.node.name (NewConfig b.config) = delivered setup t a.node.name event a.input a.comes turn.fits b.from (NewConfig b.config) b.delivers in
     let stored : IsStored t b.config = turn.before.configurations.in_messages b.from a.node.name (NewConfig b.config) b.config told refl in
     record {
       leading = record {
@@ -145,7 +137,7 @@ leading_of tests setup t event h turn a b =
         promised = b.promised;
         leader = b.leader;
         stored = stored;
-        below = fenced_below a.node a.node.role b.config.epoch refl b.role (turn.before.promises.roles a.node a.is) b.promised (some_epoch setup t turn.before.configurations b.config stored);
+        below = fenced_below a.node a.node.role b.config.epoch refl b.role (turn.before.promises.roles a.node a.is) b.promised (stored-some setup t b.config turn.before.configurations stored);
         there = subst (λ (n : NodeRecord). IsNode (goes_to t h.after) n) b.is a.there;
       };
       is = b.is;
@@ -154,11 +146,11 @@ leading_of tests setup t event h turn a b =
 followed : (tests : Tests) (setup : Deployment) (t : Moment) (event : Event) (h : Happening) → Turn tests setup t event h → (a : Acting tests setup t event h) (config : Membership) (rows : List Row)
     → ((from : ℕ) × (a.input ≡ Deliver from (NewState config rows))) ⊎ TookWhole a.node a.input config rows → IsStored t config × Initial t config (entries_of rows)
 followed tests setup t event h turn a config rows (inl w) =
-    let sent : WasSent t w.0 a.node.name (NewState config rows) = delivered setup t a.node.name event w.0 (NewState config rows) turn.fits (subst (λ (i : Input). Comes t.now a.node.name event i) w.1 a.comes) in
+    let sent : WasSent t w.0 a.node.name (NewState config rows) = delivered setup t a.node.name event a.input a.comes turn.fits w.0 (NewState config rows) w.1 in
     (turn.before.configurations.in_messages w.0 a.node.name (NewState config rows) config sent refl, turn.before.transfer.whole w.0 a.node.name config rows sent)
 followed tests setup t event h turn a config rows (inr w) =
     let sent : WasSent t w.from a.node.name (StatePiece config w.number w.pieces w.piece)
-    = delivered setup t a.node.name event w.from (StatePiece config w.number w.pieces w.piece) turn.fits (subst (λ (i : Input). Comes t.now a.node.name event i) w.delivers a.comes) in
+    = delivered setup t a.node.name event a.input a.comes turn.fits w.from (StatePiece config w.number w.pieces w.piece) w.delivers in
     let g : Gathering = with_one_more (gathering_for a.node.gathering config w.pieces) (record { number = w.number; rows = w.piece }) in
     let all : Initial t config (entries_of (rows_of g.kept))
     = whole-Initial t turn.before.transfer a.node.name w.from a.node.name config w.number w.pieces w.piece g (gathered t turn.before.transfer a.node w.from config w.number w.pieces w.piece a.is sent w.takes) sent w.whole in

@@ -1,39 +1,30 @@
 -- What a node gathers: pieces that were sent to it, in order; and all of them are what was sent.
-use Rattle.std.proofs.Common.{◌≡◌, ℕ, ◌<◌, ◌≤◌, Bool, true, false, cond, ◌&&◌, ◌||◌, ◌==◌, nat_lt, nat_le, List, [], map, length, Option, Some, None, ◌⊎◌, inl, inr, sym, ◌∙◌, ap, subst, refl, arith, eqb-true, ltb-true}
+use Rattle.std.proofs.Common.{◌≡◌, ℕ, ◌<◌, ◌≤◌, Bool, true, false, cond, ◌&&◌, ◌||◌, ◌==◌, nat_lt, nat_le, List, map, length, Option, Some, None, ◌⊎◌, inl, inr, sym, ◌∙◌, subst, refl, arith, eqb-true, ltb-true}
 use Rattle.std.specs.Prelude.{IsTrue}
-use Rattle.std.specs.List.{list_any}
 use Rattle.tcs_terms.specs.declared.inputs.Event.{Event}
 use Rattle.tcs_terms.specs.declared.inputs.Input.{Input}
 use Rattle.tcs_terms.specs.declared.inputs.Input.TheVariants.{Deliver}
 use Rattle.tcs_terms.specs.declared.logs.Row.{Row}
-use Rattle.tcs_terms.specs.declared.messages.Message.{Message}
 use Rattle.tcs_terms.specs.declared.messages.Message.TheVariants.{StatePiece}
-use Rattle.tcs_terms.specs.Events.{event_fits}
 use Rattle.tcs_terms.specs.Order.{ascends}
 use Rattle.tcs_terms.specs.Places.{Membership}
-use Rattle.tcs_terms.specs.Setups.{Deployment, has_node}
+use Rattle.tcs_terms.specs.Setups.{Deployment}
 use Rattle.tcs_terms.proofs.BoolLaws.{left_of, right_of}
 use Rattle.tcs_laws.specs.Certification.{Tests}
 use Rattle.protocol.specs.Invariant.Logs.{entries_of, Initial}
 use Rattle.protocol.specs.Invariant.Time.{Moment, goes_to, StandsIn, IsNode, WasSent}
 use Rattle.protocol.specs.Invariant.Transfer.{IsKeptOf, IsSentInPieces, TransferHolds}
 use Rattle.protocol.specs.Outcomes.{Out}
-use Rattle.protocol.specs.Pieces.{piece_count, piece_of, is_kept, with_piece, rows_of, are_whole, fits, with_one_more, is_whole, begun, is_gathering_of, takes_piece, gathering_for, gathered_from}
+use Rattle.protocol.specs.Pieces.{piece_count, is_kept, with_piece, rows_of, are_whole, fits, with_one_more, is_whole, begun, is_gathering_of, takes_piece, gathering_for, gathered_from}
 use Rattle.protocol.specs.Records.{Piece, Gathering, NodeRecord}
-use Rattle.protocol.specs.World.{World, Happening, Sent}
-use Rattle.protocol_laws.specs.Change.{Comes}
-use Rattle.protocol_laws.specs.Change.Comes.{ByCall, ByMessage}
+use Rattle.protocol.specs.World.{Happening}
 use Rattle.protocol_laws.specs.Effect.{Effect}
 use Rattle.protocol_laws.specs.Effect.Effect.{Rests, Promises, Follows, Gathers, FollowsPieces}
 use Rattle.protocol_laws.specs.Turn.{Turn, Onward}
+use Rattle.protocol_laws.proofs.ConfigurationsInputs.{delivered}
 use Rattle.protocol_laws.proofs.Lasting.{sent-on}
-use Rattle.protocol_laws.proofs.TransferEvents.{node_back, IsOfActing, Acting, effect_name}
+use Rattle.protocol_laws.proofs.TransferEvents.{node_back, Acting, effect_name}
 use Rattle.protocol_laws.proofs.TransferPieces.{pieces-all, with_piece-ascends, with_piece-StandsIn, same_config-is}
-
--- a message that a node takes was sent to it
-pub delivered : (setup : Deployment) (t : Moment) (name : ℕ) (event : Event) (from : ℕ) (m : Message) → event_fits setup event ≡ true → Comes t.now name event (Deliver from m) → WasSent t from name m
-delivered setup t name event from m fits (ByCall input) = absurd (cc (right_of (has_node setup.nodes name) false fits))
-delivered setup t name event from m fits (ByMessage number f mm sent e found stands) = record { sent = subst (λ (s : Sent). StandsIn s t.now.messages) e stands }
 
 -- pieces of a configuration that were sent to a node, ascending
 pub record IsGathered (t : Moment) (name : ℕ) (config : Membership) (pieces : ℕ) (g : Gathering) : Type 0 where
@@ -160,7 +151,7 @@ gathering_of tests setup t event h turn a g e = elim (gathering_by tests setup.v
     config = k.config;
     pieces = k.pieces;
     gathered =
-        (let sent : WasSent t k.from a.node.name (StatePiece k.config k.number k.pieces k.rows) = delivered setup t a.node.name event k.from (StatePiece k.config k.number k.pieces k.rows) turn.fits (subst (λ (i : Input). Comes t.now a.node.name event i) k.delivers a.comes) in
+        (let sent : WasSent t k.from a.node.name (StatePiece k.config k.number k.pieces k.rows) = delivered setup t a.node.name event a.input a.comes turn.fits k.from (StatePiece k.config k.number k.pieces k.rows) k.delivers in
         subst (λ (n : ℕ). IsGathered t n k.config k.pieces g) (sym (effect_name tests setup.version a.node a.input a.out a.effect))
         (subst (λ (f : Gathering). IsGathered t a.node.name k.config k.pieces f) (sym k.is) (gathered t turn.before.transfer a.node k.from k.config k.number k.pieces k.rows a.is sent k.takes)));
   })

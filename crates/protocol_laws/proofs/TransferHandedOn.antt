@@ -8,19 +8,20 @@ use Rattle.tcs_laws.specs.Certification.{Tests}
 use Rattle.protocol.specs.Invariant.Answers.{AnswerHolds}
 use Rattle.protocol.specs.Invariant.Choice.{IsChosen}
 use Rattle.protocol.specs.Invariant.Configurations.{ConfigurationsHold}
-use Rattle.protocol.specs.Invariant.Logs.{entries_of, Reached, Held, Initial, HasInitial, Skipped, HoldsNoMore}
+use Rattle.protocol.specs.Invariant.Logs.{entries_of, Reached, Held, Initial, HasInitial, Skipped}
 use Rattle.protocol.specs.Invariant.Promises.{IsMemberAt}
-use Rattle.protocol.specs.Invariant.Time.{Moment, goes_to, StandsIn, IsNode, IsStored}
+use Rattle.protocol.specs.Invariant.Time.{Moment, goes_to, StandsIn, IsStored}
 use Rattle.protocol.specs.Invariant.Transfer.{IsHandedOn}
 use Rattle.protocol.specs.Records.{NodeRecord}
-use Rattle.protocol.specs.Records.Role.{Fenced, Leader}
+use Rattle.protocol.specs.Records.Role.{Leader}
 use Rattle.protocol.specs.World.{Happening}
 use Rattle.protocol_laws.specs.Turn.{Turn, Onward}
 use Rattle.protocol_laws.proofs.Lasting.{one_node, is_in-now, no_more-on, no_more-held, HoldsNoMoreThen, held-back, HoldsNow}
-use Rattle.protocol_laws.proofs.TransferConfigs.{one_config, some_epoch, next_above}
-use Rattle.protocol_laws.proofs.TransferEvents.{config_back, IsNext}
+use Rattle.protocol_laws.proofs.Stored.{one_config, stored-some}
+use Rattle.protocol_laws.proofs.TransferConfigs.{next_above}
+use Rattle.protocol_laws.proofs.TransferEvents.{config_back}
 use Rattle.protocol_laws.proofs.TransferEnters.{Leading}
-use Rattle.protocol_laws.proofs.TransferInitial.{initial_back, LeadsWith}
+use Rattle.protocol_laws.proofs.TransferInitial.{initial_back}
 
 -- what is handed on stays so
 handed_still : (setup : Deployment) (t u : Moment) → ConfigurationsHold setup u → Onward t u → (earlier : Membership) (entries : List Preparation) → IsHandedOn t earlier entries → IsHandedOn u earlier entries
@@ -47,7 +48,7 @@ earlier_stored tests setup t event h turn c earlier cs s e l = elim (config_back
 -- a skipped epoch: a member will hold no more there, and held nothing
 handed_by_skipped : (setup : Deployment) (t : Moment) → ConfigurationsHold setup t → (earlier : Membership) (entries : List Preparation) → IsStored t earlier → Skipped t earlier.shard earlier.epoch → IsHandedOn t earlier entries
 handed_by_skipped setup t ct earlier entries s k =
-    let is : k.config ≡ earlier = one_config setup t ct k.config earlier k.stored s k.of_shard k.of_epoch in
+    let is : k.config ≡ earlier = one_config setup t k.config earlier ct k.stored s k.of_shard k.of_epoch in
     record {
       node = k.node;
       is = k.is;
@@ -72,9 +73,9 @@ module _ (tests : Tests) (setup : Deployment) (t : Moment) (event : Event) (h : 
   -- of its own state epoch, it will hold no more now
   handed_by_leader : (earlier : Membership) → IsStored t earlier → earlier.shard ≡ c.shard → earlier.epoch ≡ l.node.state → IsHandedOn (goes_to t h.after) earlier (entries_of l.node.rows)
   handed_by_leader earlier s e q =
-      let one : 1 ≤ l.node.state = subst (λ n. 1 ≤ n) q (some_epoch setup t turn.before.configurations earlier s) in
+      let one : 1 ≤ l.node.state = subst (λ n. 1 ≤ n) q (stored-some setup t earlier turn.before.configurations s) in
       let m : IsMemberAt t l.node = turn.before.promises.members l.node l.is one in
-      let is : m.config ≡ earlier = one_config setup t turn.before.configurations m.config earlier m.stored s (m.shard ∙ sym (e ∙ l.shard)) (m.epoch ∙ sym q) in
+      let is : m.config ≡ earlier = one_config setup t m.config earlier turn.before.configurations m.stored s (m.shard ∙ sym (e ∙ l.shard)) (m.epoch ∙ sym q) in
       record {
         node = record l.node { role = Leader c; state = c.epoch };
         is = l.there;
@@ -115,7 +116,7 @@ module _ (tests : Tests) (setup : Deployment) (t : Moment) (event : Event) (h : 
       s = earlier_stored tests setup t event h turn c earlier l.stored su e q
 
       chosen : IsChosen t c
-      chosen = turn.before.choice.stored c l.stored (let one : 1 ≤ earlier.epoch = some_epoch setup t turn.before.configurations earlier s in omega (arith, one, q))
+      chosen = turn.before.choice.stored c l.stored (let one : 1 ≤ earlier.epoch = stored-some setup t earlier turn.before.configurations s in omega (arith, one, q))
 
       by : (chosen.state < earlier.epoch) ⊎ (chosen.state ≡ earlier.epoch) ⊎ (earlier.epoch < chosen.state) → IsHandedOn (goes_to t h.after) earlier (entries_of l.node.rows)
       by (inl a) = handed_still setup t (goes_to t h.after) cu onward earlier (entries_of l.node.rows)

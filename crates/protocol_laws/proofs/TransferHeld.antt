@@ -1,10 +1,9 @@
 -- How a member of a configuration comes to hold an entry there: it enters, it leads and appends, or it accepts a listed one.
-use Rattle.std.proofs.Common.{◌≡◌, ℕ, ◌+◌, ◌<◌, ◌≤◌, max, Bool, true, false, cond, ◌==◌, nat_lt, List, [], ◌∷◌, ◌++◌, map, filter, Option, Some, None, ◌⊎◌, inl, inr, sym, ◌∙◌, ap, ap₂, subst, refl, arith}
+use Rattle.std.proofs.Common.{◌≡◌, ℕ, ◌≤◌, Bool, true, false, cond, nat_lt, List, [], ◌∷◌, ◌++◌, filter, Option, None, ◌⊎◌, inl, inr, sym, ◌∙◌, ap, ap₂, subst, refl, arith}
 use Rattle.tcs_terms.specs.declared.ids.TxId.{TxId}
 use Rattle.tcs_terms.specs.declared.inputs.Event.{Event}
 use Rattle.tcs_terms.specs.declared.inputs.Input.{Input}
 use Rattle.tcs_terms.specs.declared.inputs.Input.TheVariants.{Deliver}
-use Rattle.tcs_terms.specs.declared.logs.Mark.{Mark}
 use Rattle.tcs_terms.specs.declared.logs.Row.{Row}
 use Rattle.tcs_terms.specs.declared.messages.Message.TheVariants.{Accept}
 use Rattle.tcs_terms.specs.Payloads.{Accesses}
@@ -14,42 +13,28 @@ use Rattle.tcs_terms.specs.Setups.{Deployment}
 use Rattle.tcs_laws.specs.Certification.{Tests}
 use Rattle.protocol.specs.Invariant.Configurations.{ConfigurationsHold, role_configs, probed_configs, gathered_configs}
 use Rattle.protocol.specs.Invariant.Entries.{ListedAt}
-use Rattle.protocol.specs.Invariant.Logs.{entries_of, Reached, Held, Listed}
+use Rattle.protocol.specs.Invariant.Logs.{entries_of, Held, Listed}
 use Rattle.protocol.specs.Invariant.Promises.{PromisesHold, FitsRole, IsOf}
 use Rattle.protocol.specs.Invariant.Time.{Moment, goes_to, StandsIn, IsNode, IsStored, WasSent}
-use Rattle.protocol.specs.Log.{row_of, new_entry, mark_of, has_at, put_entry, accepted, marked, set_mark, undecided}
+use Rattle.protocol.specs.Log.{row_of, new_entry, mark_of, has_at, put_entry, accepted, undecided}
 use Rattle.protocol.specs.Outcomes.{Out}
 use Rattle.protocol.specs.Records.{Role, NodeRecord}
 use Rattle.protocol.specs.Records.Role.{Fenced, Leader, Follower}
 use Rattle.protocol.specs.ShardRules.{is_leader, least}
 use Rattle.protocol.specs.World.{Happening}
-use Rattle.protocol.proofs.Lists.{StandsIn-append}
-use Rattle.protocol_laws.specs.Change.{Comes}
 use Rattle.protocol_laws.specs.Effect.{Effect, MayFollow}
 use Rattle.protocol_laws.specs.Effect.Effect.{Rests, Appends, Accepts, Marks, Follows, FollowsPieces}
 use Rattle.protocol_laws.specs.Turn.{Turn, Onward}
+use Rattle.protocol_laws.proofs.ConfigurationsInputs.{delivered}
+use Rattle.protocol_laws.proofs.EntriesKept.{entries_of-marked}
 use Rattle.protocol_laws.proofs.Lasting.{HoldsNow, held-back, is_in-now}
-use Rattle.protocol_laws.proofs.Standing.{StandsIn-left, StandsIn-right, StandsIn-map, map-StandsIn, IsMapped, filter-StandsIn}
-use Rattle.protocol_laws.proofs.TransferConfigs.{one_config, some_epoch, member_shard}
-use Rattle.protocol_laws.proofs.TransferEvents.{node_back, IsOfActing, Acting, effect_name, effect_shard}
+use Rattle.protocol_laws.proofs.PromisesOrder.{filtered-StandsIn}
+use Rattle.protocol_laws.proofs.Standing.{StandsIn-left, StandsIn-right}
+use Rattle.protocol_laws.proofs.Stored.{one_config, stored-some}
+use Rattle.protocol_laws.proofs.TransferConfigs.{member_shard}
+use Rattle.protocol_laws.proofs.TransferEvents.{node_back, IsOfActing, effect_name, effect_shard}
 use Rattle.protocol_laws.proofs.TransferEnters.{enters, EntersAs}
-use Rattle.protocol_laws.proofs.TransferGathering.{delivered}
 use Rattle.protocol_laws.proofs.TransferReached.{Enters, enters_it}
-
--- marks leave entries
-pub marked-entries : (rows : List Row) (slot : ℕ) (mark : Mark) → entries_of (marked rows slot mark) ≡ entries_of rows
-marked-entries [] slot mark = refl
-marked-entries (r ∷ rs) slot mark = go (r.entry.slot == slot) (marked-entries rs slot mark)
-  where
-    go : (b : Bool) → entries_of (marked rs slot mark) ≡ entries_of rs → (cond b (set_mark mark r) r).entry ∷ entries_of (marked rs slot mark) ≡ r.entry ∷ entries_of rs
-    go true ih = ap (λ xs. r.entry ∷ xs) ih
-    go false ih = ap (λ xs. r.entry ∷ xs) ih
-
--- the entries of rows that pass a test are among those of all
-filtered-entries : (p : Row → Bool) (rows : List Row) (x : Preparation) → StandsIn x (entries_of (filter p rows)) → StandsIn x (entries_of rows)
-filtered-entries p rows x s =
-    let m : IsMapped (λ (r : Row). r.entry) (filter p rows) x = map-StandsIn (λ (r : Row). r.entry) (filter p rows) x s in
-    subst (λ y. StandsIn y (entries_of rows)) (sym m.is) (StandsIn-map (λ (r : Row). r.entry) rows m.from (filter-StandsIn p rows m.from m.there).0)
 
 -- the entries of rows joined
 pub joined-entries : (xs ys : List Row) (x : Preparation) → StandsIn x (entries_of (xs ++ ys)) → StandsIn x (entries_of xs) ⊎ StandsIn x (entries_of ys)
@@ -62,9 +47,9 @@ pub accepted-StandsIn : (rows : List Row) (entry x : Preparation) → StandsIn x
 accepted-StandsIn rows entry x s = go (has_at rows entry.slot entry.txn) s
   where
     put : StandsIn x (entries_of (filter (λ (r : Row). nat_lt r.entry.slot entry.slot) rows)) ⊎ StandsIn x (entry ∷ entries_of (filter (λ (r : Row). nat_lt entry.slot r.entry.slot) rows)) → StandsIn x (entries_of rows) ⊎ (x ≡ entry)
-    put (inl k) = inl (filtered-entries (λ (r : Row). nat_lt r.entry.slot entry.slot) rows x k)
+    put (inl k) = inl (filtered-StandsIn (λ (r : Row). nat_lt r.entry.slot entry.slot) rows x k)
     put (inr (inl e)) = inr e
-    put (inr (inr k)) = inl (filtered-entries (λ (r : Row). nat_lt entry.slot r.entry.slot) rows x k)
+    put (inr (inr k)) = inl (filtered-StandsIn (λ (r : Row). nat_lt entry.slot r.entry.slot) rows x k)
 
     go : (b : Bool) → StandsIn x (entries_of (cond b rows (put_entry rows entry))) → StandsIn x (entries_of rows) ⊎ (x ≡ entry)
     go true k = inl k
@@ -100,7 +85,7 @@ entries_by tests version node input out (Accepts from epoch entry follows at tak
   | inl k ↦ inl k
   | inr e ↦ inr (inr (record { from = from; delivers = ap₂ (λ (n : ℕ) (y : Preparation). Deliver from (Accept n y)) (sym at) (sym e) }))
 ]
-entries_by tests version node input out (Marks from epoch slot txn commit l has) still x s = inl (subst (λ xs. StandsIn x xs) (marked-entries node.rows slot (mark_of commit)) s)
+entries_by tests version node input out (Marks from epoch slot txn commit l has) still x s = inl (subst (λ xs. StandsIn x xs) (entries_of-marked node.rows slot (mark_of commit)) s)
 entries_by tests version node input out (Follows from config rows v may) still x s = absurd (not_least node config may still)
 entries_by tests version node input out (FollowsPieces from config number pieces rows new v may takes e whole) still x s = absurd (not_least node config may still)
 entries_by tests version node input out (Rests i answer notices n) still x s = inl s
@@ -162,7 +147,7 @@ held_how tests setup t event h turn cu onward c name x s m held = elim (held-bac
     old_shard i o = sym (effect_shard tests setup.version o.acting.node o.acting.input o.acting.out o.acting.effect) ∙ (sym (ap (λ (n : NodeRecord). n.shard) o.is) ∙ member_shard setup (goes_to t h.after) cu c i.node s i.is (subst (λ k. StandsIn k c.members) (sym i.named) m))
 
     same : (d : Membership) → IsStored t d → d.shard ≡ c.shard → d.epoch ≡ c.epoch → d ≡ c
-    same d k e f = one_config setup (goes_to t h.after) cu d c (onward.stored d k) s e f
+    same d k e f = one_config setup (goes_to t h.after) d c cu (onward.stored d k) s e f
 
     appending : (i : HoldsNow (goes_to t h.after) c.epoch name x) (o : IsOfActing tests setup t event h i.node) (a : AppendsEntry tests o.acting.node o.acting.out.kept x) (d : Membership) → d ≡ c → o.acting.node.role ≡ Leader d → IsStored t d → IsOf o.acting.node d → d.leader ≡ o.acting.node.name
         → Gains tests t (goes_to t h.after) c name x
@@ -173,7 +158,7 @@ held_how tests setup t event h turn cu onward c name x s m held = elim (held-bac
       of = of;
       leader = leader;
       stored = stored;
-      some = some_epoch setup t turn.before.configurations d stored;
+      some = stored-some setup t d turn.before.configurations stored;
       txn = a.txn;
       shards = a.shards;
       part = a.part;
@@ -189,7 +174,7 @@ held_how tests setup t event h turn cu onward c name x s m held = elim (held-bac
         let is : d.0 ≡ c = same d.0 d.2 (d.3.shard ∙ old_shard i o) (d.3.epoch ∙ e) in
         inr (appending i o a d.0 is d.1 d.2 d.3 d.4)
     stays i o e (inr (inr a)) =
-        let sent : WasSent t a.from o.acting.node.name (Accept o.acting.node.state x) = delivered setup t o.acting.node.name event a.from (Accept o.acting.node.state x) turn.fits (subst (λ (j : Input). Comes t.now o.acting.node.name event j) a.delivers o.acting.comes) in
+        let sent : WasSent t a.from o.acting.node.name (Accept o.acting.node.state x) = delivered setup t o.acting.node.name event o.acting.input o.acting.comes turn.fits a.from (Accept o.acting.node.state x) a.delivers in
         let l : ListedAt t o.acting.node.shard o.acting.node.state x = turn.before.entries.accepting a.from o.acting.node.state o.acting.node x o.acting.is sent in
         inr (AcceptsIt (subst (λ (y : Membership). Listed t y x) (same l.config l.stored (l.of_shard ∙ old_shard i o) (l.of_epoch ∙ e)) l.listed))
 

@@ -1,6 +1,5 @@
 -- When the initial entries of a configuration come to be defined: as its leader becomes its leader, once.
-use Rattle.std.proofs.Common.{◌≡◌, ℕ, ◌+◌, ◌<◌, ◌≤◌, ◌==◌, List, [], ◌∷◌, ◌++◌, filter, Option, Some, None, ◌⊎◌, inl, inr, sym, ◌∙◌, ap, subst, refl, arith}
-use Rattle.std.specs.List.{last_or}
+use Rattle.std.proofs.Common.{◌≡◌, ◌<◌, ◌≤◌, ◌==◌, List, [], ◌∷◌, ◌++◌, filter, Some, None, ◌⊎◌, inl, inr, sym, ◌∙◌, ap, subst, refl, arith}
 use Rattle.tcs_terms.specs.declared.inputs.Event.{Event}
 use Rattle.tcs_terms.specs.declared.logs.Row.{Row}
 use Rattle.tcs_terms.specs.Places.{Membership}
@@ -10,14 +9,16 @@ use Rattle.tcs_laws.specs.Certification.{Tests}
 use Rattle.protocol.specs.Invariant.Configurations.{ConfigurationsHold}
 use Rattle.protocol.specs.Invariant.Logs.{entries_of, Reached, BecameLeader, Initial, HasInitial}
 use Rattle.protocol.specs.Invariant.Time.{Moment, worlds, goes_to, StandsIn, IsNode, IsStored}
-use Rattle.protocol.specs.Records.{Role, NodeRecord}
+use Rattle.protocol.specs.Records.{NodeRecord}
 use Rattle.protocol.specs.Records.Role.{Leader, Follower}
 use Rattle.protocol.specs.World.{World, Happening}
 use Rattle.protocol_laws.specs.Turn.{Turn, Onward}
 use Rattle.protocol_laws.proofs.Lasting.{one_node}
+use Rattle.protocol_laws.proofs.Stands.{last_or-StandsIn}
 use Rattle.protocol_laws.proofs.Standing.{StandsIn-right, filter-StandsIn}
-use Rattle.protocol_laws.proofs.TransferConfigs.{some_epoch, leads_member}
-use Rattle.protocol_laws.proofs.TransferEvents.{node_back, config_back, IsNext, IsOfActing, Acting, effect_name}
+use Rattle.protocol_laws.proofs.Stored.{stored-some}
+use Rattle.protocol_laws.proofs.TransferConfigs.{leads_member}
+use Rattle.protocol_laws.proofs.TransferEvents.{node_back, config_back, IsNext, IsOfActing, effect_name}
 use Rattle.protocol_laws.proofs.TransferEnters.{enters, EntersAs, LeadsAs, Leading, Following}
 use Rattle.protocol_laws.proofs.TransferReached.{stored_then}
 
@@ -25,10 +26,6 @@ use Rattle.protocol_laws.proofs.TransferReached.{stored_then}
 pub record LeadsWith (t u : Moment) (c : Membership) (entries : List Preparation) : Type 0 where
   pub leading : Leading t u c
   pub is : entries ≡ entries_of leading.node.rows
-
-last-StandsIn : {X : Type 0} (o : Option X) (xs : List X) (x : X) → last_or o xs ≡ Some x → (o ≡ Some x) ⊎ StandsIn x xs
-last-StandsIn o [] x h = inl h
-last-StandsIn o (y ∷ ys) x h = elim (last-StandsIn (Some y) ys x h) [ inl e ↦ inr (inl (let k : y ≡ x = cc e in sym k)) | inr s ↦ inr (inr s) ]
 
 -- the first configurations are stored from the beginning
 first_then : (tests : Tests) (setup : Deployment) (t : Moment) (event : Event) (h : Happening) → Turn tests setup t event h → (c : Membership) → IsStored (goes_to t h.after) c → c.epoch ≡ 1 → IsStored t c
@@ -39,10 +36,10 @@ first_then tests setup t event h turn c s e = elim (config_back tests setup t ev
   where
     not_next : IsNext t c → ⊥
     not_next next =
-        let among : (None ≡ Some next.last) ⊎ StandsIn next.last (filter (λ (d : Membership). d.shard == c.shard) t.now.configs) = last-StandsIn None (filter (λ (d : Membership). d.shard == c.shard) t.now.configs) next.last next.is_last in
+        let among : (None ≡ Some next.last) ⊎ StandsIn next.last (filter (λ (d : Membership). d.shard == c.shard) t.now.configs) = last_or-StandsIn None (filter (λ (d : Membership). d.shard == c.shard) t.now.configs) next.last next.is_last in
         elim among [
           | inl n ↦ cc n
-          | inr m ↦ (let one : 1 ≤ next.last.epoch = some_epoch setup t turn.before.configurations next.last (filter-StandsIn (λ (d : Membership). d.shard == c.shard) t.now.configs next.last m).0 in omega (arith, one, e, next.epoch))
+          | inr m ↦ (let one : 1 ≤ next.last.epoch = stored-some setup t next.last turn.before.configurations (filter-StandsIn (λ (d : Membership). d.shard == c.shard) t.now.configs next.last m).0 in omega (arith, one, e, next.epoch))
         ]
 
 -- what stands after a moment that is split
@@ -69,7 +66,7 @@ pub initial_back : (tests : Tests) (setup : Deployment) (t : Moment) (event : Ev
 initial_back tests setup t event h turn cu onward c entries i = begun i.begun
   where
     one : 1 ≤ c.epoch
-    one = some_epoch setup (goes_to t h.after) cu c i.stored
+    one = stored-some setup (goes_to t h.after) c cu i.stored
 
     with_it : (d : Membership) → d ≡ c → (l : Leading t (goes_to t h.after) d) → entries ≡ entries_of l.node.rows → LeadsWith t (goes_to t h.after) c entries
     with_it d e l x = subst (λ (d : Membership). LeadsWith t (goes_to t h.after) d entries) e (record { leading = l; is = x })

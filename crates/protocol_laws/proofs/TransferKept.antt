@@ -1,5 +1,5 @@
 -- One event keeps state transfer.
-use Rattle.std.proofs.Common.{◌≡◌, ℕ, ◌≤◌, ◌<◌, List, [], ◌∷◌, ◌⊎◌, inl, inr, sym, ◌∙◌, ap, subst, refl, arith}
+use Rattle.std.proofs.Common.{◌≡◌, ℕ, ◌≤◌, List, ◌⊎◌, inl, inr, sym, ◌∙◌, ap, subst, refl}
 use Rattle.tcs_terms.specs.declared.inputs.Event.{Event}
 use Rattle.tcs_terms.specs.Places.{Membership}
 use Rattle.tcs_terms.specs.Preparations.{Preparation}
@@ -10,15 +10,16 @@ use Rattle.protocol.specs.Invariant.Choice.{ChoiceHolds}
 use Rattle.protocol.specs.Invariant.Configurations.{ConfigurationsHold}
 use Rattle.protocol.specs.Invariant.Logs.{entries_of, Reached, Held, Initial, HasInitial, Listed}
 use Rattle.protocol.specs.Invariant.Promises.{PromisesHold}
-use Rattle.protocol.specs.Invariant.Time.{Moment, goes_to, StandsIn, IsNode, IsStored}
+use Rattle.protocol.specs.Invariant.Time.{Moment, goes_to, StandsIn, IsStored}
 use Rattle.protocol.specs.Invariant.Transfer.{TransferHolds}
 use Rattle.protocol.specs.Records.{NodeRecord}
 use Rattle.protocol.specs.Records.Role.{Leader}
 use Rattle.protocol.specs.World.{Happening}
 use Rattle.protocol_laws.specs.Turn.{Turn, Onward}
-use Rattle.protocol_laws.proofs.Lasting.{one_node, is_in-now, reached-on, held-on, initial-on, has_initial-on, listed-on}
+use Rattle.protocol_laws.proofs.Lasting.{one_node, is_in-now, reached-on, held-on, has_initial-on, listed-on}
 use Rattle.protocol_laws.proofs.OnwardOf.{onward_of}
-use Rattle.protocol_laws.proofs.TransferConfigs.{some_epoch, leads_member}
+use Rattle.protocol_laws.proofs.Stored.{stored-some}
+use Rattle.protocol_laws.proofs.TransferConfigs.{leads_member}
 use Rattle.protocol_laws.proofs.TransferEnters.{LeadsAs, Leading, Following}
 use Rattle.protocol_laws.proofs.TransferGathering.{kept_then, in_order_then}
 use Rattle.protocol_laws.proofs.TransferHandedOn.{handed_on_then}
@@ -60,7 +61,7 @@ module _ (tests : Tests) (setup : Deployment) (t : Moment) (event : Event) (h : 
       by (inr a) = record {
         node = record a.leading.node { role = Leader c; state = c.epoch };
         was = is_in-now u c.epoch c.leader (record a.leading.node { role = Leader c; state = c.epoch }) a.leading.there (sym a.leading.leader) refl;
-        some = some_epoch setup u cu c i.1.stored;
+        some = stored-some setup u c cu i.1.stored;
       }
 
   -- who enters a configuration sees its initial entries defined

@@ -1,28 +1,24 @@
 -- Who reached a configuration after an event, and when its initial entries came to be defined.
-use Rattle.std.proofs.Common.{◌≡◌, ℕ, zero, suc, ◌+◌, ◌-◌, ◌<◌, ◌≤◌, Bool, true, false, ◌&&◌, ◌==◌, nat_le, List, [], ◌∷◌, ◌++◌, filter, length, slice_index, Option, Some, None, ◌⊎◌, inl, inr, sym, ◌∙◌, ap, subst, refl, arith, leb-true, eq-or-lt_of_le}
-use Rattle.std.specs.List.{last_or}
+use Rattle.std.proofs.Common.{◌≡◌, ℕ, zero, suc, ◌+◌, ◌-◌, ◌<◌, ◌≤◌, true, ◌==◌, nat_le, List, [], ◌∷◌, length, slice_index, ◌⊎◌, inl, inr, sym, ◌∙◌, ap, subst, refl, arith, leb-true, eq-or-lt_of_le}
 use Rattle.tcs_terms.specs.declared.inputs.Event.{Event}
-use Rattle.tcs_terms.specs.declared.logs.Row.{Row}
 use Rattle.tcs_terms.specs.Places.{Membership}
-use Rattle.tcs_terms.specs.Preparations.{Preparation}
 use Rattle.tcs_terms.specs.Setups.{Deployment, has_node, is_node_of}
 use Rattle.tcs_terms.proofs.BoolLaws.{left_of, right_of}
 use Rattle.tcs_laws.specs.Certification.{Tests}
 use Rattle.protocol.specs.Invariant.Configurations.{ConfigurationsHold}
-use Rattle.protocol.specs.Invariant.Logs.{entries_of, Reached, BecameLeader, Initial, HasInitial}
-use Rattle.protocol.specs.Invariant.Promises.{PromisesHold, IsMemberAt}
-use Rattle.protocol.specs.Invariant.Time.{Moment, worlds, goes_to, StandsIn, IsNode, IsStored}
+use Rattle.protocol.specs.Invariant.Logs.{Reached}
+use Rattle.protocol.specs.Invariant.Promises.{IsMemberAt}
+use Rattle.protocol.specs.Invariant.Time.{Moment, goes_to, StandsIn, IsNode, IsStored}
 use Rattle.protocol.specs.Records.{NodeRecord}
-use Rattle.protocol.specs.Records.Role.{Leader, Follower}
-use Rattle.protocol.specs.World.{World, Happening}
-use Rattle.protocol.proofs.Lists.{all-StandsIn, find-StandsIn}
+use Rattle.protocol.specs.World.{Happening}
+use Rattle.protocol.proofs.Lists.{all-StandsIn}
 use Rattle.protocol_laws.specs.Turn.{Turn, Onward, GrewTo}
-use Rattle.protocol_laws.proofs.Lasting.{IsIn, one_node, reached-back, is_in-now, initial-on}
+use Rattle.protocol_laws.proofs.Lasting.{IsIn, reached-back, is_in-now}
 use Rattle.protocol_laws.proofs.Numbered.{AreNumbered}
-use Rattle.protocol_laws.proofs.Standing.{StandsIn-right, filter-StandsIn}
-use Rattle.protocol_laws.proofs.TransferConfigs.{one_config, some_epoch, member_shard, leads_member, next_above}
-use Rattle.protocol_laws.proofs.TransferEvents.{node_back, config_back, IsNext, IsOfActing, Acting, effect_name}
-use Rattle.protocol_laws.proofs.TransferEnters.{enters, EntersAs, LeadsAs, Leading, Following}
+use Rattle.protocol_laws.proofs.Stored.{one_config}
+use Rattle.protocol_laws.proofs.TransferConfigs.{member_shard, next_above}
+use Rattle.protocol_laws.proofs.TransferEvents.{node_back, config_back, IsNext, IsOfActing, effect_name}
+use Rattle.protocol_laws.proofs.TransferEnters.{enters, EntersAs, LeadsAs, Following}
 
 numbered_there : {X : Type 0} (f : X → ℕ) (xs : List X) (from count k : ℕ) → AreNumbered f xs from count → from ≤ k → k < from + count → (x : X) × StandsIn x xs × (f x ≡ k)
 numbered_there f [] from zero k h low high = absurd (omega (arith, low, high))
@@ -85,10 +81,10 @@ enters_it setup t u onward cu c new s n m e f = go f.how
 
     go : LeadsAs t u f.config new ⊎ Following t u f.config new → LeadsAs t u c new ⊎ Following t u c new
     go (inl l) =
-        let is : f.config ≡ c = one_config setup u cu f.config c (onward.stored f.config l.leading.stored) s (l.leading.shard ∙ (sym (ap (λ (x : NodeRecord). x.shard) l.is) ∙ shard)) (sym (ap (λ (x : NodeRecord). x.state) l.is) ∙ e) in
+        let is : f.config ≡ c = one_config setup u f.config c cu (onward.stored f.config l.leading.stored) s (l.leading.shard ∙ (sym (ap (λ (x : NodeRecord). x.shard) l.is) ∙ shard)) (sym (ap (λ (x : NodeRecord). x.state) l.is) ∙ e) in
         inl (subst (λ (d : Membership). LeadsAs t u d new) is l)
     go (inr l) =
-        let is : f.config ≡ c = one_config setup u cu f.config c (onward.stored f.config l.stored) s (l.shard ∙ shard) (sym l.state ∙ e) in
+        let is : f.config ≡ c = one_config setup u f.config c cu (onward.stored f.config l.stored) s (l.shard ∙ shard) (sym l.state ∙ e) in
         inr (subst (λ (d : Membership). Following t u d new) is l)
 
 -- a member that reached a configuration reached it before, or enters it

@@ -1,5 +1,5 @@
 -- Why a node sends a message that speaks of entries: each effect's sends.
-use Rattle.std.proofs.Common.{◌≡◌, ℕ, ◌+◌, ◌-◌, ◌≤◌, ◌<◌, Bool, true, false, cond, ◌&&◌, ◌==◌, nat_lt, List, [], ◌∷◌, ◌++◌, map, filter, find, flat_map, Option, Some, None, ◌⊎◌, inl, inr, sym, ◌∙◌, ap, subst, refl, arith, eqb-true}
+use Rattle.std.proofs.Common.{◌≡◌, ℕ, ◌-◌, ◌≤◌, Bool, true, false, cond, ◌==◌, nat_lt, List, [], ◌∷◌, ◌++◌, filter, Option, Some, None, ◌⊎◌, inl, inr, sym, ◌∙◌, ap, subst, refl, eqb-true}
 use Rattle.tcs_terms.specs.declared.ids.TxId.{TxId}
 use Rattle.tcs_terms.specs.declared.inputs.Input.{Input}
 use Rattle.tcs_terms.specs.declared.inputs.Input.TheVariants.{Deliver}
@@ -10,13 +10,12 @@ use Rattle.tcs_terms.specs.declared.messages.Outgoing.{Outgoing}
 use Rattle.tcs_terms.specs.Logs.{same_txn}
 use Rattle.tcs_terms.specs.Places.{Membership}
 use Rattle.tcs_terms.specs.Preparations.{Preparation}
-use Rattle.tcs_terms.proofs.BoolLaws.{left_of, right_of}
 use Rattle.tcs_laws.specs.Certification.{Tests}
 use Rattle.protocol.specs.Cases.{accept}
 use Rattle.protocol.specs.Coordination.{first_entry}
 use Rattle.protocol.specs.Invariant.Logs.{entries_of}
 use Rattle.protocol.specs.Invariant.Time.{StandsIn}
-use Rattle.protocol.specs.Log.{row_of, row_at, holds_txn, has_at, put_entry, accepted, undecided}
+use Rattle.protocol.specs.Log.{row_at, holds_txn, has_at, put_entry, accepted, undecided}
 use Rattle.protocol.specs.Outcomes.{Out, to}
 use Rattle.protocol.specs.Pieces.{piece_count, piece_of}
 use Rattle.protocol.specs.Probing.{ask_stage, proposed}
@@ -26,9 +25,10 @@ use Rattle.protocol.specs.Views.{view_of, followers}
 use Rattle.protocol.proofs.Lists.{StandsIn-append, find-StandsIn}
 use Rattle.protocol_laws.specs.Effect.{Effect, OpenPart}
 use Rattle.protocol_laws.specs.Effect.Effect.{Rests, Certifies, TakesOver, Nudges, Moves, Lowers, Reads, Asks, AnswersAgain, Appends, Votes, Acknowledges, Changes, Learns, Keeps, Accepts, Marks, Promises, Chooses, FindsLow, Leads, Follows, Gathers, FollowsPieces}
-use Rattle.protocol_laws.proofs.Standing.{StandsIn-left, StandsIn-right, StandsIn-map}
+use Rattle.protocol_laws.proofs.TransactionsLists.{IsPiece, flat_map-StandsIn, same_txn-eq}
+use Rattle.protocol_laws.proofs.Standing.{StandsIn-right, StandsIn-map}
 use Rattle.protocol_laws.proofs.TransferEnters.{BecomesLeader}
-use Rattle.protocol_laws.proofs.TransferSends.{SaysNothing, SayNothing, none-says, one-says, append-says, IsFrom, flat_map-StandsIn, accept-says, AsksIn, AsksFor, AsksAgainFor, new_case-says, resend-says, ask_leader-says, probe-says, ask_stage-says, notices-says, sees-says, hears-says, goes_on-says, IsPieceOf, state-says}
+use Rattle.protocol_laws.proofs.TransferSends.{SaysNothing, SayNothing, one-says, append-says, accept-says, AsksIn, AsksAgainFor, new_case-says, resend-says, ask_leader-says, ask_stage-says, notices-says, sees-says, hears-says, goes_on-says, IsPieceOf, state-says}
 
 -- a part takes the vote of a PREPARE_ACK, or keeps the one that it has
 pub record VotesNow (node : NodeRecord) (input : Input) (view : Membership) (entry : Preparation) : Type 0 where
@@ -59,18 +59,12 @@ pub data Sending (node : NodeRecord) (input : Input) (new : NodeRecord) (dest : 
   SendsWhole : (b : BecomesLeader node input new) → Sending node input new dest (NewState b.config node.rows)
   SendsPiece : (b : BecomesLeader node input new) (number : ℕ) → 1 ≤ number → number ≤ piece_count node.rows → Sending node input new dest (StatePiece b.config number (piece_count node.rows) (piece_of node.rows number))
 
-pub same_txn-is : (a b : TxId) → same_txn a b ≡ true → a ≡ b
-same_txn-is a b h = same a b (eqb-true a.home b.home (left_of (a.home == b.home) (a.seq == b.seq) h)) (eqb-true a.seq b.seq (right_of (a.home == b.home) (a.seq == b.seq) h))
-  where
-    same : (a b : TxId) → a.home ≡ b.home → a.seq ≡ b.seq → a ≡ b
-    same a b p q = λ i. record { home = p i; seq = q i }
-
 -- a row that a slot is found to hold
 held_at : (rows : List Row) (slot : ℕ) (txn : TxId) (o : Option Row) → row_at rows slot ≡ o → holds_txn o txn ≡ true → HasEntry rows slot txn
 held_at rows slot txn None e h = absurd (cc h)
 held_at rows slot txn (Some r) e h =
     let f = find-StandsIn (λ (r : Row). r.entry.slot == slot) rows r e in
-    record { entry = r.entry; there = StandsIn-map (λ (r : Row). r.entry) rows r f.0; at_slot = eqb-true r.entry.slot slot f.1; of_txn = same_txn-is r.entry.txn txn h }
+    record { entry = r.entry; there = StandsIn-map (λ (r : Row). r.entry) rows r f.0; at_slot = eqb-true r.entry.slot slot f.1; of_txn = same_txn-eq r.entry.txn txn h }
 
 -- what was accepted is there
 pub accepted-has : (rows : List Row) (entry : Preparation) → HasEntry (accepted rows entry) entry.slot entry.txn
@@ -151,8 +145,8 @@ sending_by tests version node input out (Promises from epoch l) dest m s = one n
 sending_by tests version node input out (Chooses from state shard want epoch probed low e a l) dest m s = one node _ _ dest m 0 (Cas (proposed node.name shard epoch want from)) tt s
 sending_by tests version node input out (FindsLow from state shard want epoch probed low e a l) dest m s = absurd s
 sending_by tests version node input out (Leads from config shard role promised leader) dest m s =
-    let r : IsFrom (state_to version config node.rows) (followers config) (to dest m) = flat_map-StandsIn (state_to version config node.rows) (followers config) (to dest m) s in
-    lead node (Deliver from (NewConfig config)) _ (record { from = from; config = config; delivers = refl; shard = shard; role = role; promised = promised; leader = leader; is = refl }) dest m (state-says version config node.rows r.from (to dest m) r.is)
+    let r : IsPiece (state_to version config node.rows) (followers config) (to dest m) = flat_map-StandsIn (state_to version config node.rows) (followers config) (to dest m) s in
+    lead node (Deliver from (NewConfig config)) _ (record { from = from; config = config; delivers = refl; shard = shard; role = role; promised = promised; leader = leader; is = refl }) dest m (state-says version config node.rows r.source (to dest m) r.within)
 sending_by tests version node input out (Follows from config rows v may) dest m s = absurd s
 sending_by tests version node input out (Gathers from config number pieces rows new v may takes e w) dest m s = absurd s
 sending_by tests version node input out (FollowsPieces from config number pieces rows new v may takes e whole) dest m s = absurd s

@@ -1,9 +1,7 @@
 -- What a node sends of entries and state: the messages that the lists speak of, each with why it was sent.
-use Rattle.std.proofs.Common.{◌≡◌, ℕ, zero, suc, ◌+◌, ◌≤◌, ◌<◌, Bool, true, false, cond, not, ◌==◌, List, [], ◌∷◌, ◌++◌, map, flat_map, filter, find, length, Option, Some, None, is_some, ◌⊎◌, inl, inr, sym, ◌∙◌, ap, subst, refl, arith, eqb-true}
+use Rattle.std.proofs.Common.{◌≡◌, ℕ, zero, suc, ◌+◌, ◌≤◌, ◌<◌, Bool, true, false, not, ◌==◌, List, [], ◌∷◌, ◌++◌, map, flat_map, filter, length, Option, Some, None, ◌⊎◌, inl, inr, sym, ◌∙◌, ap, subst, refl, arith}
 use Rattle.std.specs.List.{range_with_len}
 use Rattle.tcs_terms.specs.declared.ids.TxId.{TxId}
-use Rattle.tcs_terms.specs.declared.inputs.Input.{Input}
-use Rattle.tcs_terms.specs.declared.inputs.Input.TheVariants.{Deliver}
 use Rattle.tcs_terms.specs.declared.logs.Row.{Row}
 use Rattle.tcs_terms.specs.declared.messages.Message.{Message}
 use Rattle.tcs_terms.specs.declared.messages.Message.TheVariants.{Prepare, PrepareAck, Accept, AcceptAck, DecisionFor, Probe, ProbeAck, NewConfig, NewState, ConfigChange, Last, At, Cas, Stored, OutcomeOf, Refused, StatePiece}
@@ -28,6 +26,7 @@ use Rattle.protocol_laws.specs.Effect.AreNotices.{Silent, Notice}
 use Rattle.protocol_laws.specs.Effect.GoesOn.{Waiting, Decides}
 use Rattle.protocol_laws.specs.Effect.Sees.{Replaces, Keeps}
 use Rattle.protocol_laws.specs.Effect.Hears.{Waits, ProbesLast, ProbesLower, IsDone}
+use Rattle.protocol_laws.proofs.TransactionsLists.{IsPiece, flat_map-StandsIn}
 use Rattle.protocol_laws.proofs.Standing.{map-StandsIn, IsMapped, filter-StandsIn}
 
 -- a message that says nothing of entries in a log
@@ -68,19 +67,6 @@ pub map-says : {A : Type 0} (f : A → Outgoing) (xs : List A) → ((a : A) → 
 map-says f [] h o s = absurd s
 map-says f (x ∷ xs) h o (inl e) = subst (λ (q : Outgoing). SaysNothing q.message) (sym e) (h x)
 map-says f (x ∷ xs) h o (inr s) = map-says f xs h o s
-
--- what stands in a list of lists
-pub record IsFrom {A B : Type 0} (f : A → List B) (xs : List A) (y : B) : Type 0 where
-  pub from : A
-  pub there : StandsIn from xs
-  pub is : StandsIn y (f from)
-
-pub flat_map-StandsIn : {A B : Type 0} (f : A → List B) (xs : List A) (y : B) → StandsIn y (flat_map f xs) → IsFrom f xs y
-flat_map-StandsIn f [] y s = absurd s
-flat_map-StandsIn f (x ∷ xs) y s = elim (StandsIn-append (f x) (flat_map f xs) y s) [
-  | inl a ↦ record { from = x; there = inl refl; is = a }
-  | inr b ↦ (let r : IsFrom f xs y = flat_map-StandsIn f xs y b in record { from = r.from; there = inr r.there; is = r.is })
-]
 
 pub prepare-says : (n : ℕ) (txn : TxId) (case : Case) (view : Option Membership) → SayNothing (prepare n txn case view)
 unfolding prepare
@@ -124,8 +110,8 @@ part-says n views txn case part o (Some entry) e there s = inr (record { part = 
 pub send_case-says : (views : List Membership) (txn : TxId) (case : Case) (o : Outgoing) → StandsIn o (send_case views txn case) → SaysNothing o.message ⊎ AsksFor views case.parts o
 unfolding send_case
 send_case-says views txn case o s =
-    let r : IsFrom (λ (p : Part). send_part (length views) txn case p.entry p.acks (view_of views p.shard)) case.parts o = flat_map-StandsIn (λ (p : Part). send_part (length views) txn case p.entry p.acks (view_of views p.shard)) case.parts o s in
-    part-says (length views) views txn case r.from o r.from.entry refl r.there r.is
+    let r : IsPiece (λ (p : Part). send_part (length views) txn case p.entry p.acks (view_of views p.shard)) case.parts o = flat_map-StandsIn (λ (p : Part). send_part (length views) txn case p.entry p.acks (view_of views p.shard)) case.parts o s in
+    part-says (length views) views txn case r.source o r.source.entry refl r.among r.within
 
 all_asked : (views : List Membership) (shards : List ℕ) (o : Outgoing) → AsksFor views (map asked shards) o → ⊥
 all_asked views shards o a =
@@ -150,18 +136,18 @@ pub record AsksAgainFor (c : Coordinator) (o : Outgoing) : Type 0 where
 pub resend-says : (c : Coordinator) (o : Outgoing) → StandsIn o (resend c) → SaysNothing o.message ⊎ AsksAgainFor c o
 unfolding resend
 resend-says c o s =
-    let r : IsFrom (λ (e : TxId × Case). send_case c.views e.0 e.1) c.cases o = flat_map-StandsIn (λ (e : TxId × Case). send_case c.views e.0 e.1) c.cases o s in
-    elim (send_case-says c.views r.from.0 r.from.1 o r.is) [
+    let r : IsPiece (λ (e : TxId × Case). send_case c.views e.0 e.1) c.cases o = flat_map-StandsIn (λ (e : TxId × Case). send_case c.views e.0 e.1) c.cases o s in
+    elim (send_case-says c.views r.source.0 r.source.1 o r.within) [
       | inl n ↦ inl n
-      | inr a ↦ inr (record { txn = r.from.0; case = r.from.1; open_case = r.there; asks = a })
+      | inr a ↦ inr (record { txn = r.source.0; case = r.source.1; open_case = r.among; asks = a })
     ]
 
 pub ask_leader-says : (c : Coordinator) (config : Membership) → SayNothing (ask_leader c config)
 unfolding ask_leader
 ask_leader-says c config o s =
-    let r : IsFrom (λ (e : TxId × Case). prepare (length c.views) e.0 e.1 (Some config)) (filter (λ (e : TxId × Case). has_part e.1 config.shard) c.cases) o
+    let r : IsPiece (λ (e : TxId × Case). prepare (length c.views) e.0 e.1 (Some config)) (filter (λ (e : TxId × Case). has_part e.1 config.shard) c.cases) o
     = flat_map-StandsIn (λ (e : TxId × Case). prepare (length c.views) e.0 e.1 (Some config)) (filter (λ (e : TxId × Case). has_part e.1 config.shard) c.cases) o s in
-    prepare-says (length c.views) r.from.0 r.from.1 (Some config) o r.is
+    prepare-says (length c.views) r.source.0 r.source.1 (Some config) o r.within
 
 pub probe-says : (epoch : ℕ) (members : List ℕ) → SayNothing (probe epoch members)
 unfolding probe
@@ -191,8 +177,8 @@ members-says txn commit (Some entry) None = none-says
 pub tell_decision-says : (views : List Membership) (txn : TxId) (parts : List Part) (decision : Decision) → SayNothing (tell_decision views txn parts decision)
 unfolding tell_decision
 tell_decision-says views txn parts decision = append-says (flat_map (λ (p : Part). tell_members txn (commits decision) p.entry (view_of views p.shard)) parts) (to txn.home (OutcomeOf txn decision) ∷ [])
-    (λ o s. let r : IsFrom (λ (p : Part). tell_members txn (commits decision) p.entry (view_of views p.shard)) parts o = flat_map-StandsIn (λ (p : Part). tell_members txn (commits decision) p.entry (view_of views p.shard)) parts o s in
-    members-says txn (commits decision) r.from.entry (view_of views r.from.shard) o r.is)
+    (λ o s. let r : IsPiece (λ (p : Part). tell_members txn (commits decision) p.entry (view_of views p.shard)) parts o = flat_map-StandsIn (λ (p : Part). tell_members txn (commits decision) p.entry (view_of views p.shard)) parts o s in
+    members-says txn (commits decision) r.source.entry (view_of views r.source.shard) o r.within)
     (one-says _ tt)
 
 pub notices-says : (os : List Outgoing) → AreNotices os → SayNothing os

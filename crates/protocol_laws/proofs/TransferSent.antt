@@ -1,18 +1,16 @@
 -- State that is sent is the initial entries of a configuration: whole, or cut in pieces from one list.
-use Rattle.std.proofs.Common.{◌≡◌, ℕ, ◌+◌, ◌≤◌, ◌<◌, List, [], ◌∷◌, map, ◌⊎◌, inl, inr, sym, ◌∙◌, ap, subst, refl, arith, Some}
+use Rattle.std.proofs.Common.{◌≡◌, ℕ, ◌≤◌, List, [], ◌∷◌, ◌⊎◌, inl, inr, sym, ◌∙◌, ap, subst, refl}
 use Rattle.std.specs.List.{range_with_len}
 use Rattle.tcs_terms.specs.declared.inputs.Event.{Event}
 use Rattle.tcs_terms.specs.declared.inputs.Input.{Input}
 use Rattle.tcs_terms.specs.declared.logs.Row.{Row}
 use Rattle.tcs_terms.specs.declared.messages.Message.{Message}
 use Rattle.tcs_terms.specs.declared.messages.Message.TheVariants.{Stored, ConfigChange, NewState, StatePiece}
-use Rattle.tcs_terms.specs.declared.messages.Outgoing.{Outgoing}
 use Rattle.tcs_terms.specs.Places.{Membership}
 use Rattle.tcs_terms.specs.Setups.{Deployment}
 use Rattle.tcs_laws.specs.Certification.{Tests}
-use Rattle.protocol.specs.Invariant.Configurations.{ConfigurationsHold}
-use Rattle.protocol.specs.Invariant.Logs.{entries_of, Initial, HasInitial}
-use Rattle.protocol.specs.Invariant.Time.{Moment, goes_to, StandsIn, IsNode, IsStored, WasSent}
+use Rattle.protocol.specs.Invariant.Logs.{entries_of, Initial}
+use Rattle.protocol.specs.Invariant.Time.{Moment, goes_to, WasSent}
 use Rattle.protocol.specs.Invariant.Transfer.{IsSentInPieces}
 use Rattle.protocol.specs.Outcomes.{Out, to}
 use Rattle.protocol.specs.Pieces.{piece_count, piece_of}
@@ -23,7 +21,7 @@ use Rattle.protocol_laws.specs.Change.{Serves}
 use Rattle.protocol_laws.specs.Change.Serves.{HoldsBack, Tells, Stores}
 use Rattle.protocol_laws.specs.Turn.{Turn, Onward}
 use Rattle.protocol_laws.proofs.Lasting.{one_node, initial-on}
-use Rattle.protocol_laws.proofs.TransferEvents.{message_back, IsSentBy, IsServed, Acting}
+use Rattle.protocol_laws.proofs.TransferEvents.{message_back, Acting}
 use Rattle.protocol_laws.proofs.TransferEnters.{BecomesLeader, LeadsAs, Leading, leading_of}
 use Rattle.protocol_laws.proofs.TransferInitial.{no_initial, initial_now}
 use Rattle.protocol_laws.proofs.TransferSends.{SaysNothing, SayNothing, one-says, append-says, map-says, notices-says}

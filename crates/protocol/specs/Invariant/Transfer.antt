@@ -31,8 +31,9 @@ IsKeptOf t node g piece =
     (from : ℕ) × WasSent t from node.name (StatePiece g.config piece.number g.pieces piece.rows)
 
 -- Where a configuration has its initial entries, each earlier one is handed on to it. What is sent as its state is those
--- entries. Kept pieces ascend by number, so that all of them together are what was sent. A member that reached it holds at least those, and at most its list. Its initial entries are defined exactly
--- where its leader reached it, and wherever a node reached it or its state was sent.
+-- entries. Kept pieces ascend by number, so that all of them together are what was sent. A member that reached it holds
+-- at least those, and at most its list. Its initial entries are defined exactly where its leader reached it, and wherever
+-- a node reached it or its state was sent.
 pub record TransferHolds (t : Moment) : Type 0 where
   pub handed_on : (c earlier : Membership) (entries : List Preparation) → Initial t c entries → IsStored t earlier → earlier.shard ≡ c.shard → earlier.epoch < c.epoch
       → IsHandedOn t earlier entries
