@@ -30,7 +30,6 @@ pub mod WithPast
 pub mod CorrectNotes
 pub mod Orders
 pub mod CorrectOrder
-pub mod CorrectOf
 pub mod HistoryAt
 pub mod AppendedBy
 pub mod FoundInRun
@@ -124,3 +123,5 @@ pub mod CopyTells
 pub mod CopyFits
 pub mod OneCopyOf
 pub mod CopyLaws
+pub mod ToldDecisions
+pub mod ToldAt

@@ -4,3 +4,4 @@ pub mod Turn
 pub mod Runs
 pub mod Limits
 pub mod Rising
+pub mod Told
