@@ -15,8 +15,8 @@ use Rattle.protocol.specs.History.{has_begun}
 use Rattle.protocol.specs.Invariant.Time.{StandsIn}
 use Rattle.protocol_laws.proofs.BegunFirst.{BegunFirst}
 use Rattle.protocol_laws.proofs.Standing.{StandsIn-left, StandsIn-right, all-from}
-use Rattle.protocol_laws.proofs.TransactionsLists.{same_txn-eq}
-use Rattle.protocol_laws.proofs.WithPast.{all-with_past, same_txn-self}
+use Rattle.protocol_laws.proofs.WithPast.{all-with_past}
+use Rattle.protocol_laws.proofs.SameTxn.{same_txn-eq, same_txn-self}
 
 -- a cause and a decision are one with themselves
 same_cause-self : (c : Cause) → same_cause c c ≡ true

@@ -41,32 +41,6 @@ follower Fenced l f = cc l
 follower (Leader c) l f = cc f
 follower (Follower c) l f = cc l
 
-pub effect-name : (tests : Tests) (version : ℕ) (node : NodeRecord) (input : Input) (out : Out NodeRecord) → Effect tests version node input out → out.kept.name ≡ node.name
-effect-name tests version node i o (Rests input answer notices h) = refl
-effect-name tests version node i o (Certifies payload h case e) = refl
-effect-name tests version node i o (TakesOver txn row a b c d case e) = refl
-effect-name tests version node i o Nudges = refl
-effect-name tests version node i o (Moves shard want) = refl
-effect-name tests version node i o (Lowers shard want epoch probed low a b c) = refl
-effect-name tests version node i o (Reads name a) = refl
-effect-name tests version node i o (Asks shard) = refl
-effect-name tests version node i o (AnswersAgain from epoch txn shards part row a b c d) = refl
-effect-name tests version node i o (Appends from epoch txn shards part a b c d g made e) = refl
-effect-name tests version node i o (Votes from shard epoch x case part view a b c d out g) = refl
-effect-name tests version node i o (Acknowledges from shard epoch slot txn case part view a b c d out g) = refl
-effect-name tests version node i o (Changes from config a) = refl
-effect-name tests version node i o (Learns from config coordinator sent stage asked a b) = refl
-effect-name tests version node i o (Keeps from txn decision a b) = refl
-effect-name tests version node i o (Accepts from epoch x a b t) = refl
-effect-name tests version node i o (Marks from epoch slot txn commit a b) = refl
-effect-name tests version node i o (Promises from epoch a) = refl
-effect-name tests version node i o (Chooses from state shard want epoch probed low a b c) = refl
-effect-name tests version node i o (FindsLow from state shard want epoch probed low a b c) = refl
-effect-name tests version node i o (Leads from config a b c d) = refl
-effect-name tests version node i o (Follows from config rows a b) = refl
-effect-name tests version node i o (Gathers from config number pieces rows gathering a b c d e) = refl
-effect-name tests version node i o (FollowsPieces from config number pieces rows gathering a b c d e) = refl
-
 pub effect_appends : (tests : Tests) (version : ℕ) (node : NodeRecord) (input : Input) (out : Out NodeRecord) (entry : Preparation) → Effect tests version node input out
     → is_leader node.role ≡ true → out.kept.role ≡ node.role → out.kept.rows ≡ node.rows ++ undecided entry ∷ [] → entry.payload ≡ None → AsksWithout entry.txn input out
 effect_appends tests version node i o entry (Rests input answer notices h) l s more none = absurd (one_more node.rows entry more)

@@ -18,7 +18,7 @@ use Rattle.protocol_laws.proofs.KeepsTime.{decided-begun}
 use Rattle.protocol_laws.proofs.OrderOf.{order-front, order-noted}
 use Rattle.protocol_laws.proofs.Orders.{commit-told}
 use Rattle.protocol_laws.proofs.Standing.{StandsIn-filter, StandsIn-left, StandsIn-right}
-use Rattle.protocol_laws.proofs.TransactionsLists.{same_txn-eq}
+use Rattle.protocol_laws.proofs.SameTxn.{same_txn-eq}
 
 -- whatever was committed stands in the order
 first_of_each-there : (ts : List TxId) (txn : TxId) → StandsIn txn ts → StandsIn txn (first_of_each ts)

@@ -15,8 +15,8 @@ use Rattle.protocol.proofs.Lists.{find-StandsIn}
 use Rattle.protocol_laws.specs.Change.{Comes, ByCall, ByMessage, Change, Passes, Stops, Acts, AtService}
 use Rattle.protocol_laws.proofs.EffectOf.{effect_of}
 use Rattle.protocol_laws.proofs.Guards.{by_guard, by_option}
-use Rattle.protocol_laws.proofs.Stands.{slice_get-StandsIn}
 use Rattle.protocol_laws.proofs.ServesOf.{serves_of}
+use Rattle.protocol_laws.proofs.Standing.{slice_get-StandsIn}
 
 -- a message that has a number was sent
 pub message_of-StandsIn : (messages : List Sent) (number : ℕ) (sent : Sent) → message_of messages number ≡ Some sent → StandsIn sent messages

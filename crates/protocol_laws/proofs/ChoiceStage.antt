@@ -27,18 +27,7 @@ use Rattle.protocol_laws.specs.Effect.Hears.{Waits, ProbesLast, ProbesLower, IsD
 use Rattle.protocol_laws.specs.Effect.Effect.{Rests, Certifies, TakesOver, Nudges, Moves, Lowers, Reads, Asks, AnswersAgain, Appends, Votes, Acknowledges, Changes, Learns, Keeps, Accepts, Marks, Promises, Chooses, FindsLow, Leads, Follows, Gathers, FollowsPieces}
 use Rattle.protocol_laws.proofs.ConfigurationsHad.{had}
 use Rattle.protocol_laws.proofs.Standing.{StandsIn-map, StandsIn-filter}
-
-range-low : (from n m : ℕ) → StandsIn m (range_with_len from n) → from ≤ m
-range-low from zero m s = absurd s
-range-low from (suc n) m (inl e) = omega (arith, e)
-range-low from (suc n) m (inr s) = omega (arith, range-low (from + 1) n m s)
-
-epoch-StandsIn : (shard : ℕ) (cs : List Membership) (c : Membership) → c.shard ≡ shard → StandsIn c cs → StandsIn c.epoch (map (λ d. d.epoch) (filter (λ d. d.shard == shard) cs))
-epoch-StandsIn shard cs c e s = StandsIn-map (λ d. d.epoch) (filter (λ d. d.shard == shard) cs) c (StandsIn-filter (λ d. d.shard == shard) cs c s (eq-eqb c.shard shard e))
-
--- the epoch of a stored configuration is at least 1
-pub stored-epoch : (setup : Deployment) (t : Moment) (k : Membership) → ConfigurationsHold setup t → IsStored t k → 1 ≤ k.epoch
-stored-epoch setup t k c s = range-low 1 (last_epoch t.now.configs k.shard) k.epoch (subst (λ es. StandsIn k.epoch es) (c.epochs k.shard) (epoch-StandsIn k.shard t.now.configs k refl s))
+use Rattle.protocol_laws.proofs.Stored.{stored-some}
 
 -- what a probing stage holds
 pub record ProbesWell (t : Moment) (shard epoch : ℕ) (probed : Membership) (low : List ℕ) : Type 0 where
@@ -97,7 +86,7 @@ lowers-stands t shard epoch probed (name ∷ low) w l p = record {
 hears-holds : (setup : Deployment) (t : Moment) (me : ℕ) (config : Membership) (view : ℕ) (old new : Stage) (sends : List Outgoing) → ConfigurationsHold setup t → IsStored t config → Hears me config view old new sends → StageHolds t old → StageHolds t new
 hears-holds setup t me config view old new sends c s (Waits stage) h = h
 hears-holds setup t me config view old new sends c s (ProbesLast shard want e v m) h =
-    (e, record { some = stored-epoch setup t config c s; below = omega arith; between = λ q a b. absurd (omega (arith, a, b)) }, λ name k. absurd k)
+    (e, record { some = stored-some setup t config c s; below = omega arith; between = λ q a b. absurd (omega (arith, a, b)) }, λ name k. absurd k)
 hears-holds setup t me config view old new sends c s (ProbesLower shard want epoch asked e q) h =
     (e, subst (λ p. StandsAt t shard epoch p) (sym q) h, λ name k. absurd k)
 hears-holds setup t me config view old new sends c s (IsDone kept e q) h = tt

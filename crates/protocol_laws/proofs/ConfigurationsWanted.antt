@@ -17,22 +17,20 @@ use Rattle.protocol.proofs.Lists.{StandsIn-append, all-StandsIn, among-StandsIn}
 use Rattle.protocol_laws.specs.Effect.{Hears, Effect}
 use Rattle.protocol_laws.specs.Effect.Hears.{Waits, ProbesLast, ProbesLower, IsDone}
 use Rattle.protocol_laws.specs.Effect.Effect.{Rests, Certifies, TakesOver, Nudges, Moves, Lowers, Reads, Asks, AnswersAgain, Appends, Votes, Acknowledges, Changes, Learns, Keeps, Accepts, Marks, Promises, Chooses, FindsLow, Leads, Follows, Gathers, FollowsPieces}
-use Rattle.protocol_laws.proofs.ConfigurationsLists.{each-list_all, StandsIn-among}
-use Rattle.protocol_laws.proofs.Standing.{StandsIn-right}
-use Rattle.protocol_laws.proofs.Stands.{filter-StandsIn}
+use Rattle.protocol_laws.proofs.Standing.{StandsIn-right, filter-StandsIn, all-from, StandsIn-among}
 
 -- the wanted nodes and one more
 joined-StandsIn : (node n : ℕ) (nodes : List ℕ) → StandsIn n (joined node nodes) → (n ≡ node) ⊎ StandsIn n nodes
 joined-StandsIn node n nodes s = elim (StandsIn-append (filter (λ m. nat_lt m node) nodes) (node ∷ filter (λ m. nat_lt node m) nodes) n s) [
-  | inl a ↦ inr (filter-StandsIn (λ m. nat_lt m node) nodes n a)
+  | inl a ↦ inr (filter-StandsIn (λ m. nat_lt m node) nodes n a).0
   | inr (inl e) ↦ inl e
-  | inr (inr b) ↦ inr (filter-StandsIn (λ m. nat_lt node m) nodes n b)
+  | inr (inr b) ↦ inr (filter-StandsIn (λ m. nat_lt node m) nodes n b).0
 ]
 
 proposed-HasMembers : (setup : Deployment) (me shard epoch : ℕ) (want : List ℕ) (leader : ℕ) → is_node_of setup.nodes shard leader ≡ true → IsTrue (list_all (is_node_of setup.nodes shard) want)
     → HasMembers setup (proposed me shard epoch want leader)
 proposed-HasMembers setup me shard epoch want leader l w = record {
-  nodes = each-list_all (is_node_of setup.nodes shard) (joined leader want) (λ n s. elim (joined-StandsIn leader n want s) [
+  nodes = all-from (is_node_of setup.nodes shard) (joined leader want) (λ n s. elim (joined-StandsIn leader n want s) [
     | inl e ↦ subst (λ m. is_node_of setup.nodes shard m ≡ true) (sym e) l
     | inr r ↦ all-StandsIn (is_node_of setup.nodes shard) want n w r
   ]);

@@ -24,8 +24,7 @@ use Rattle.protocol_laws.proofs.LegalOrder.{legal-each}
 use Rattle.protocol_laws.proofs.NamesOnce.{same_name-eq, same_name-self}
 use Rattle.protocol_laws.proofs.PayloadReads.{Passing, any-Passing}
 use Rattle.protocol_laws.proofs.RangesOnce.{find-range}
-use Rattle.protocol_laws.proofs.Standing.{all-from}
-use Rattle.protocol_laws.proofs.WithPast.{any-from}
+use Rattle.protocol_laws.proofs.Standing.{all-from, any-from}
 
 -- a reading of an object at a version, with the value that it told
 record IsReading (name : List ℕ) (version : ℕ) (n : Note) : Type 0 where

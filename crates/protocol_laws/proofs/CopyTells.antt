@@ -21,8 +21,8 @@ use Rattle.protocol_laws.proofs.Fronts.{IsFront, payload_in-kept}
 use Rattle.protocol_laws.proofs.LegalOrder.{IsOf, legal-each, payloads-append, payloads-first, payloads-IsOf}
 use Rattle.protocol_laws.proofs.NamesOnce.{same_name-self}
 use Rattle.protocol_laws.proofs.PayloadReads.{checks-orders, reads-bound, write-found}
-use Rattle.protocol_laws.proofs.Standing.{StandsIn-left, StandsIn-right}
-use Rattle.protocol_laws.proofs.WithPast.{any-from, StandsBetween, stands_between}
+use Rattle.protocol_laws.proofs.Standing.{StandsIn-left, StandsIn-right, any-from}
+use Rattle.protocol_laws.proofs.WithPast.{StandsBetween, stands_between}
 use Rattle.protocol_laws.proofs.WritersRise.{IsLegal, rise-in-order}
 
 -- what readings tell: nothing that was never written, or what a transaction wrote that was committed before

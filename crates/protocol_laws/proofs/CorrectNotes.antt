@@ -14,8 +14,9 @@ use Rattle.protocol.specs.CorrectHistory.{clash_in, clash_after_by, clash_after,
 use Rattle.protocol.specs.History.{payload_in, takes}
 use Rattle.protocol_laws.proofs.CausesNow.{NamesClash}
 use Rattle.protocol_laws.proofs.HistoryKept.{DecisionStands, HistoryHolds}
-use Rattle.protocol_laws.proofs.TransactionsLists.{same_txn-eq}
-use Rattle.protocol_laws.proofs.WithPast.{all-with_past, any-from, same_txn-self}
+use Rattle.protocol_laws.proofs.WithPast.{all-with_past}
+use Rattle.protocol_laws.proofs.SameTxn.{same_txn-eq, same_txn-self}
+use Rattle.protocol_laws.proofs.Standing.{any-from}
 
 -- what is lost was taken over
 lost_by : (tests : Tests) (n : ℕ) (before : List Note) (txn : TxId) (decision : Decision) → DecisionStands tests n before txn decision → lost_after_by before txn decision ≡ true

@@ -36,8 +36,7 @@ use Rattle.protocol_laws.proofs.DecisionsRows.{acting_rows_hold}
 use Rattle.protocol_laws.proofs.DecisionsTaken.{MessageAgrees, SendsAgree, agree_both, agree_one, IsReady, goes_on_decided, goes_on_told}
 use Rattle.protocol_laws.proofs.TransactionsActing.{Acting}
 use Rattle.protocol_laws.proofs.TransactionsCases.{voted_case, acknowledged_case}
-use Rattle.protocol_laws.proofs.Standing.{IsMapped, map-StandsIn}
-use Rattle.protocol_laws.proofs.TransactionsLists.{IsPiece, flat_map-StandsIn}
+use Rattle.protocol_laws.proofs.Standing.{IsMapped, map-StandsIn, IsPiece, flat_map-StandsIn}
 use Rattle.protocol_laws.proofs.TransactionsMessages.{SaysNothing, AreSilent, stage_silent, hears_silent, piece_row}
 use Rattle.protocol_laws.proofs.TransactionsMessages.SaysNothing.{IsProbe, IsProbeAck, IsNewConfig, IsLast, IsAt, IsCas}
 

@@ -23,9 +23,9 @@ use Rattle.protocol_laws.specs.Effect.{Effect}
 use Rattle.protocol_laws.specs.Turn.{Onward}
 use Rattle.protocol_laws.proofs.DecisionsLast.{is_behind-on, is_behind-later, row_holds-on, row_holds-later}
 use Rattle.protocol_laws.proofs.TransactionsActing.{Acting}
-use Rattle.protocol_laws.proofs.TransactionsLists.{same_txn-eq}
 use Rattle.protocol_laws.proofs.TransactionsRows.{RowCame, row_came}
 use Rattle.protocol_laws.proofs.TransactionsRows.RowCame.{WasThere, WasMarked, WasAppended, WasAccepted, WasWhole, WasInPiece, WasKept}
+use Rattle.protocol_laws.proofs.SameTxn.{same_txn-eq}
 
 -- where numbers ascend, the first is below each of the others
 first_below : (x : Row) (xs : List Row) (y : Row) → ascends (map (λ r. r.entry.slot) (x ∷ xs)) ≡ true → StandsIn y xs → x.entry.slot < y.entry.slot

@@ -25,8 +25,7 @@ use Rattle.protocol_laws.specs.Effect.GoesOn.{Waiting, Decides}
 use Rattle.protocol_laws.proofs.Lasting.{accepted-on}
 use Rattle.protocol_laws.proofs.DecisionsAccepted.{IsAcceptedPart, complete_part, PartsHold}
 use Rattle.protocol_laws.proofs.TransactionsActing.{Acting}
-use Rattle.protocol_laws.proofs.Standing.{IsMapped, map-StandsIn}
-use Rattle.protocol_laws.proofs.TransactionsLists.{IsPiece, flat_map-StandsIn}
+use Rattle.protocol_laws.proofs.Standing.{IsMapped, map-StandsIn, IsPiece, flat_map-StandsIn}
 use Rattle.protocol_laws.proofs.TransactionsPlaces.{view_is, IsView}
 use Rattle.protocol_laws.proofs.TransferConfigs.{member_shard}
 

@@ -6,8 +6,7 @@ use Rattle.tcs_terms.specs.declared.ids.TxId.{TxId}
 use Rattle.tcs_terms.specs.Logs.{same_txn, txns_differ}
 use Rattle.tcs_terms.proofs.BoolLaws.{both, left_of, right_of, not_false}
 use Rattle.protocol.specs.Invariant.Time.{StandsIn}
-use Rattle.protocol_laws.proofs.PromisesOrder.{same_txn-refl}
-use Rattle.protocol_laws.proofs.TransactionsLists.{same_txn-eq}
+use Rattle.protocol_laws.proofs.SameTxn.{same_txn-differ, same_txn-eq, same_txn-self}
 
 abbrev pub keys : {X : Type 0} → List (TxId × X) → List TxId
 keys es = map (λ e. e.0) es
@@ -50,19 +49,12 @@ none_added p (t ∷ ts) txn h e = go (p t) refl h (none_added p ts txn)
     go true f k ih = absurd (cc k)
     go false f k ih = rw f (ih k e)
 
-not_same : (t txn : TxId) → (t ≡ txn → ⊥) → same_txn t txn ≡ false
-not_same t txn n = go (same_txn t txn) refl
-  where
-    go : (b : Bool) → same_txn t txn ≡ b → b ≡ false
-    go true e = absurd (n (same_txn-eq t txn e))
-    go false e = refl
-
 -- transactions differ with a new one at the end
 pub added-differ : (ts : List TxId) (txn : TxId) → txns_differ ts ≡ true → (StandsIn txn ts → ⊥) → txns_differ (ts ++ txn ∷ []) ≡ true
 added-differ [] txn d n = refl
 added-differ (t ∷ ts) txn d n =
     both (not (list_any (same_txn t) (ts ++ txn ∷ []))) (txns_differ (ts ++ txn ∷ []))
-    (ap not (none_added (same_txn t) ts txn (not_false (list_any (same_txn t) ts) (left_of (not (list_any (same_txn t) ts)) (txns_differ ts) d)) (not_same t txn (λ e. n (inl (sym e))))))
+    (ap not (none_added (same_txn t) ts txn (not_false (list_any (same_txn t) ts) (left_of (not (list_any (same_txn t) ts)) (txns_differ ts) d)) (same_txn-differ t txn (λ e. n (inl (sym e))))))
     (added-differ ts txn (right_of (not (list_any (same_txn t) ts)) (txns_differ ts) d) (λ s. n (inr s)))
 
 -- where no case is found, none is there
@@ -72,5 +64,5 @@ lookup-none-StandsIn {X} txn (e ∷ es) h s = go (same_txn txn e.0) refl h s (lo
   where
     go : (b : Bool) → same_txn txn e.0 ≡ b → cond b (Some e.1) (lookup (same_txn txn) es) ≡ None → (txn ≡ e.0) ⊎ StandsIn txn (keys es) → (lookup (same_txn txn) es ≡ None → StandsIn txn (keys es) → ⊥) → ⊥
     go true f k p ih = cc k
-    go false f k (inl p) ih = let m : same_txn txn e.0 ≡ true = ap (λ u. same_txn txn u) (sym p) ∙ same_txn-refl txn in cc (f, m)
+    go false f k (inl p) ih = let m : same_txn txn e.0 ≡ true = ap (λ u. same_txn txn u) (sym p) ∙ same_txn-self txn in cc (f, m)
     go false f k (inr p) ih = ih k p

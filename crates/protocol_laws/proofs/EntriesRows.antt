@@ -10,9 +10,9 @@ use Rattle.tcs_terms.proofs.BoolLaws.{left_of, right_of}
 use Rattle.protocol.specs.Invariant.Logs.{entries_of}
 use Rattle.protocol.specs.Invariant.Time.{StandsIn}
 use Rattle.protocol.specs.Log.{row_of, slot_or_zero, last_slot}
-use Rattle.protocol_laws.proofs.PromisesOrder.{same_txn-refl}
 use Rattle.protocol_laws.proofs.Standing.{map-StandsIn, IsMapped, find-none}
 use Rattle.protocol_laws.proofs.TransferAscending.{ascending-one, txns-one}
+use Rattle.protocol_laws.proofs.SameTxn.{same_txn-self}
 
 abbrev slot_of : Row → ℕ
 slot_of r = r.entry.slot
@@ -60,5 +60,5 @@ entry-upto_last rows are x s =
 pub row-none : (rows : List Row) (txn : TxId) → row_of rows txn ≡ None → (r : Row) → StandsIn r rows → r.entry.txn ≡ txn → ⊥
 row-none rows txn h r s e =
     let k : same_txn r.entry.txn txn ≡ false = find-none (λ (r : Row). same_txn r.entry.txn txn) rows r h s in
-    let m : same_txn r.entry.txn txn ≡ true = ap (λ u. same_txn r.entry.txn u) (sym e) ∙ same_txn-refl r.entry.txn in
+    let m : same_txn r.entry.txn txn ≡ true = ap (λ u. same_txn r.entry.txn u) (sym e) ∙ same_txn-self r.entry.txn in
     cc (k, m)

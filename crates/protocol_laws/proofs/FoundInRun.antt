@@ -25,9 +25,10 @@ use Rattle.protocol.specs.World.{World, Sent, Happening, node_of, message_of}
 use Rattle.protocol.proofs.FirstRoles.{and-right}
 use Rattle.protocol_laws.specs.Change.{Change, Passes, Stops, Acts, AtService, Comes, ByCall, ByMessage}
 use Rattle.protocol_laws.proofs.After.{put_node-back}
-use Rattle.protocol_laws.proofs.AppendedBy.{AsksWithout, effect-name, effect_appends, one_more}
+use Rattle.protocol_laws.proofs.AppendedBy.{AsksWithout, effect_appends, one_more}
 use Rattle.protocol_laws.proofs.Numbered.{AreNumbered, numbered-one}
-use Rattle.protocol_laws.proofs.WithPast.{same_txn-self}
+use Rattle.protocol_laws.proofs.SameTxn.{same_txn-self}
+use Rattle.protocol_laws.proofs.TransferEvents.{effect_name}
 
 -- a leader of the shard that held no row of the transaction before, and has one more without payload after
 pub record FoundBetween (before after : World) (txn : TxId) (shard : ℕ) : Type 0 where
@@ -85,7 +86,7 @@ found_in_change tests setup w e h count txn shard names fits (Acts event name no
     go : (f.grown ≡ out.kept) ⊎ (StandsIn f.grown w.nodes × (f.grown.name ≡ out.kept.name → ⊥)) → IsFound w h txn shard event
     go (inr p) = absurd (not_same w h.after count txn shard names f p.0)
     go (inl k) =
-        let kept : out.kept.name ≡ node.name = effect-name tests setup.version node input out effect in
+        let kept : out.kept.name ≡ node.name = effect_name tests setup.version node input out effect in
         let same : node ≡ f.node = numbered-one (λ n. n.name) w.nodes 1 count node f.node names there f.there (sym kept ∙ ap (λ m. m.name) (sym k) ∙ f.grown_name) in
         let leads : is_leader node.role ≡ true = subst (λ m. is_leader m.role ≡ true) (sym same) f.leads in
         let still : out.kept.role ≡ node.role = ap (λ m. m.role) (sym k) ∙ f.still ∙ ap (λ m. m.role) (sym same) in

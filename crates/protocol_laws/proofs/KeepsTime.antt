@@ -17,8 +17,9 @@ use Rattle.protocol.proofs.Lists.{StandsIn-append}
 use Rattle.protocol_laws.proofs.BegunFirst.{BegunFirst}
 use Rattle.protocol_laws.proofs.Fronts.{IsFront, payload_in-append}
 use Rattle.protocol_laws.proofs.OrderOf.{order-noted, order-front, any-StandsIn}
-use Rattle.protocol_laws.proofs.Standing.{StandsIn-left, all-from}
-use Rattle.protocol_laws.proofs.WithPast.{all-with_past, any-from, any-with_past, same_txn-self, StandsBetween, stands_between}
+use Rattle.protocol_laws.proofs.Standing.{StandsIn-left, all-from, any-from}
+use Rattle.protocol_laws.proofs.WithPast.{all-with_past, any-with_past, StandsBetween, stands_between}
+use Rattle.protocol_laws.proofs.SameTxn.{same_txn-self}
 
 -- what has begun has begun in a longer history
 has_begun-kept : (xs ys : List Note) (txn : TxId) → has_begun xs txn ≡ true → has_begun (xs ++ ys) txn ≡ true

@@ -69,11 +69,7 @@ held-back t u epoch name x o h = elim (was_in-back t u epoch name h.node o h.was
 
 -- the state epoch of a node does not fall
 pub grows-state : (old new : NodeRecord) → Grows old new → old.state ≤ new.state
-grows-state old new g = go g.state
-  where
-    go : (new.state ≡ old.state) ⊎ (least old ≤ new.state) → old.state ≤ new.state
-    go (inl e) = omega (arith, e)
-    go (inr h) = omega (arith, h)
+grows-state old new g = elim g.state [ inl e ↦ omega (arith, e) | inr l ↦ omega (arith, l) ]
 
 -- a node that comes to an epoch below its promise was in it before
 grows-from : (old new : NodeRecord) (epoch : ℕ) → Grows old new → epoch < old.promised → new.state ≡ epoch → old.state ≡ epoch

@@ -17,8 +17,8 @@ use Rattle.protocol.proofs.FirstRoles.{and-left}
 use Rattle.protocol_laws.proofs.DecidedEntries.{CommittedEntry, committed-entry}
 use Rattle.protocol_laws.proofs.DecidesNow.{DecidesNow, earlier-noted, now-noted}
 use Rattle.protocol_laws.proofs.LegalInShard.{IsReady, legal_in_shard}
-use Rattle.protocol_laws.proofs.PartsOf.{part-shard, range-StandsIn}
-use Rattle.protocol_laws.proofs.Standing.{all-from}
+use Rattle.protocol_laws.proofs.PartsOf.{part-shard}
+use Rattle.protocol_laws.proofs.Standing.{all-from, range-StandsIn}
 
 all_one : (P : Accesses → Type 0) (p : Accesses) → P p → All P (p ∷ [])
 all_one P p h zero d l = h

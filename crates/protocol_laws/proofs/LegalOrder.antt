@@ -12,17 +12,7 @@ use Rattle.protocol.specs.CorrectHistory.{is_legal, passes_after}
 use Rattle.protocol.specs.History.{payload_in, order_of, payloads_of}
 use Rattle.protocol.specs.Invariant.Time.{StandsIn}
 use Rattle.protocol.specs.Past.{after_past, with_past}
-
-after_past-each : {X : Type 0} (p : (List X × X) → Bool) (past before : List X) (x : X) (after : List X) → list_all p (after_past past (before ++ (x ∷ after))) ≡ true → p (past ++ before, x) ≡ true
-after_past-each p past [] x after h =
-    subst (λ ys. p (ys, x) ≡ true) (sym (append-nil past)) (left_of (p (past, x)) (list_all p (after_past (past ++ x ∷ []) after)) h)
-after_past-each p past (y ∷ ys) x after h =
-    subst (λ zs. p (zs, x) ≡ true) (append_assoc past (y ∷ []) ys)
-    (after_past-each p (past ++ y ∷ []) ys x after (right_of (p (past, y)) (list_all p (after_past (past ++ y ∷ []) (ys ++ (x ∷ after)))) h))
-
--- a test of each element with those before it, at one place
-pub with_past-each : {X : Type 0} (p : (List X × X) → Bool) (xs before : List X) (x : X) (after : List X) → list_all p (with_past xs) ≡ true → xs ≡ before ++ (x ∷ after) → p (before, x) ≡ true
-with_past-each p xs before x after h e = after_past-each p [] before x after (subst (λ ys. list_all p (after_past [] ys) ≡ true) e h)
+use Rattle.protocol_laws.proofs.WithPast.{with_past-each}
 
 -- the payloads of two lists, one after the other
 pub payloads-append : (h : List Note) (xs ys : List TxId) → payloads_of h (xs ++ ys) ≡ payloads_of h xs ++ payloads_of h ys

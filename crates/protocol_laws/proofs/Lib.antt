@@ -1,5 +1,4 @@
 pub mod Guards
-pub mod Stands
 pub mod EffectsOfShardRules
 pub mod EffectsOfClients
 pub mod EffectsOfCoordination
@@ -40,7 +39,6 @@ pub mod ChangeOf
 pub mod OnwardOf
 pub mod After
 pub mod Lasting
-pub mod ConfigurationsLists
 pub mod ConfigurationsSends
 pub mod ConfigurationsSaid
 pub mod ConfigurationsHad
@@ -125,3 +123,4 @@ pub mod OneCopyOf
 pub mod CopyLaws
 pub mod ToldDecisions
 pub mod ToldAt
+pub mod SameTxn

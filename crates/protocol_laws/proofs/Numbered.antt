@@ -1,5 +1,5 @@
 -- Lemmas on lists whose elements are numbered in order.
-use Rattle.std.proofs.Common.{◌≡◌, ℕ, zero, suc, ◌+◌, ◌-◌, ◌≤◌, List, [], ◌∷◌, map, slice_index, inl, inr, sym, ◌∙◌, ap, arith}
+use Rattle.std.proofs.Common.{◌≡◌, ℕ, zero, suc, ◌+◌, ◌-◌, ◌<◌, ◌≤◌, List, [], ◌∷◌, map, slice_index, inl, inr, sym, ◌∙◌, ap, arith}
 use Rattle.std.specs.List.{range_with_len}
 use Rattle.protocol.specs.Invariant.Time.{StandsIn}
 
@@ -56,3 +56,10 @@ numbered-index f g (y ∷ ys) from count x h (inr r) =
     let l : from + 1 ≤ f x = numbered-above f ys (from + 1) k.left x k.tail r in
     let z : f x - from ≡ suc (f x - (from + 1)) = omega (arith, l) in
     ap (λ i. slice_index (g y ∷ map g ys) i) z ∙ numbered-index f g ys (from + 1) k.left x k.tail r
+
+-- and none is beyond the last
+pub numbered-below : {X : Type 0} (f : X → ℕ) (xs : List X) (from count : ℕ) (x : X) → AreNumbered f xs from count → StandsIn x xs → f x < from + count
+numbered-below f [] from count x h s = absurd s
+numbered-below f (y ∷ ys) from zero x h s = absurd (cc h)
+numbered-below f (y ∷ ys) from (suc n) x h (inl e) = let k : f y ≡ from = cc h in let m : f x ≡ from = ap f e ∙ k in omega (arith, m)
+numbered-below f (y ∷ ys) from (suc n) x h (inr s) = omega (arith, numbered-below f ys (from + 1) n x (cc h) s)

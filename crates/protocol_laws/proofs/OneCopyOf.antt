@@ -15,10 +15,9 @@ use Rattle.protocol.specs.OneCopy.{before_begin, fits_copy, honest_after, is_hon
 use Rattle.protocol_laws.proofs.BegunFirst.{BegunFirst}
 use Rattle.protocol_laws.proofs.CopyFits.{copy-fits}
 use Rattle.protocol_laws.proofs.CopyTells.{Place, TellsWritten}
-use Rattle.protocol_laws.proofs.LegalOrder.{with_past-each}
-use Rattle.protocol_laws.proofs.TransactionsLists.{same_txn-eq}
-use Rattle.protocol_laws.proofs.WithPast.{all-with_past}
+use Rattle.protocol_laws.proofs.WithPast.{all-with_past, with_past-each}
 use Rattle.protocol_laws.proofs.WritersRise.{IsLegal}
+use Rattle.protocol_laws.proofs.SameTxn.{same_txn-eq}
 
 -- a transaction's beginning stands where the history is cut for it
 record BeginsAt (h : List Note) (t : TxId) (p : Accesses) : Type 0 where

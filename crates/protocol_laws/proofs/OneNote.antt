@@ -17,6 +17,7 @@ use Rattle.protocol.specs.Versions.{read_of, value_or_empty}
 use Rattle.protocol.specs.World.{World, Happening}
 use Rattle.protocol_laws.specs.Change.{Change, Passes, Stops, Acts, AtService, Serves, HoldsBack, Tells, Stores}
 use Rattle.protocol_laws.specs.Effect.{GoesOn, Waiting, Decides, Effect, Rests, Certifies, TakesOver, Nudges, Moves, Lowers, Reads, Asks, AnswersAgain, Appends, Votes, Acknowledges, Changes, Learns, Keeps, Accepts, Marks, Promises, Chooses, FindsLow, Leads, Follows, Gathers, FollowsPieces}
+use Rattle.protocol_laws.proofs.TransactionsCame.{serves_no_notes}
 
 -- nothing, or one note
 abbrev pub AtMostOne : List Note → Type 0
@@ -52,11 +53,6 @@ effect-one tests version node i o (Follows from config rows a b) = inl refl
 effect-one tests version node i o (Gathers from config number pieces rows gathering a b c d e) = inl refl
 effect-one tests version node i o (FollowsPieces from config number pieces rows gathering a b c d e) = inl refl
 
-serves-none : (nodes : ℕ) (configs : List Membership) (from : ℕ) (message : Message) (out : Out (List Membership)) → Serves nodes configs from message out → out.notes ≡ []
-serves-none nodes configs from m o (HoldsBack message answer notices h) = refl
-serves-none nodes configs from m o (Tells message c h) = refl
-serves-none nodes configs from m o (Stores c last a b d) = refl
-
 -- a history goes on by at most one note
 pub record GoesOnByOne (old new : List Note) : Type 0 where
   pub notes : List Note
@@ -67,4 +63,4 @@ pub change-one : (tests : Tests) (version : ℕ) (w : World) (event : Event) (h 
 change-one tests version w e h (Passes event result a) = record { notes = []; is = sym (append-nil w.history); one = inl refl }
 change-one tests version w e h (Stops name) = record { notes = []; is = sym (append-nil w.history); one = inl refl }
 change-one tests version w e h (Acts event name node input out comes found s named up effect) = record { notes = out.notes; is = refl; one = effect-one tests version node input out effect }
-change-one tests version w e h (AtService number from message sent out is found s serves) = record { notes = out.notes; is = refl; one = inl (serves-none _ _ _ _ out serves) }
+change-one tests version w e h (AtService number from message sent out is found s serves) = record { notes = out.notes; is = refl; one = inl (serves_no_notes _ _ _ _ out serves) }

@@ -12,7 +12,7 @@ use Rattle.protocol.specs.Invariant.Time.{StandsIn}
 use Rattle.protocol_laws.proofs.Fronts.{IsFront}
 use Rattle.protocol_laws.proofs.Orders.{told-commit}
 use Rattle.protocol_laws.proofs.Standing.{filter-StandsIn}
-use Rattle.protocol_laws.proofs.TransactionsLists.{same_txn-eq}
+use Rattle.protocol_laws.proofs.SameTxn.{same_txn-eq}
 
 first_of_each-StandsIn : (ts : List TxId) (txn : TxId) → StandsIn txn (first_of_each ts) → StandsIn txn ts
 first_of_each-StandsIn [] txn s = absurd s

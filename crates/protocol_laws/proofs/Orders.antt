@@ -9,7 +9,7 @@ use Rattle.tcs_terms.specs.declared.votes.Decision.TheVariants.{Commit, Abort}
 use Rattle.tcs_terms.specs.Logs.{same_txn}
 use Rattle.protocol.specs.History.{commit_in, first_of_each, order_of}
 use Rattle.protocol.specs.Invariant.Time.{StandsIn}
-use Rattle.protocol_laws.proofs.WithPast.{same_txn-self}
+use Rattle.protocol_laws.proofs.SameTxn.{same_txn-self}
 
 -- where an element of a filtered list stands in the whole list
 record StoodIn {X : Type 0} (p : X → Bool) (ys before : List X) (x : X) : Type 0 where

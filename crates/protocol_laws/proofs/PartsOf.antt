@@ -5,19 +5,7 @@ use Rattle.std.specs.List.{list_any, range_with_len}
 use Rattle.tcs_terms.specs.Payloads.{Accesses}
 use Rattle.tcs_terms.specs.Shards.{lies_in, part_in, restricted, shards_of}
 use Rattle.protocol.specs.Invariant.Time.{StandsIn}
-use Rattle.protocol_laws.proofs.Standing.{StandsIn-filter, filter-StandsIn}
-
-pub StandsIn-range : (from count k : ℕ) → from ≤ k → k < from + count → StandsIn k (range_with_len from count)
-StandsIn-range from zero k l h = absurd (omega (arith, l, h))
-StandsIn-range from (suc n) k l h = elim (eq-or-lt_of_le l) [
-  | inl e ↦ inl (sym e)
-  | inr m ↦ inr (StandsIn-range (from + 1) n k (omega (arith, m)) (omega (arith, h)))
-]
-
-pub range-StandsIn : (from count k : ℕ) → StandsIn k (range_with_len from count) → (from ≤ k) × (k < from + count)
-range-StandsIn from zero k s = absurd s
-range-StandsIn from (suc n) k (inl e) = (omega (arith, e), omega (arith, e))
-range-StandsIn from (suc n) k (inr s) = let r : (from + 1 ≤ k) × (k < from + 1 + n) = range-StandsIn (from + 1) n k s in (omega (arith, r.0), omega (arith, r.1))
+use Rattle.protocol_laws.proofs.Standing.{StandsIn-filter, filter-StandsIn, StandsIn-range}
 
 -- a filter keeps nothing exactly where nothing passes
 none_kept : {X : Type 0} (f : X → Bool) (xs : List X) → (length (filter f xs) == 0) ≡ not (list_any f xs)

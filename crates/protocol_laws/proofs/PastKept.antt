@@ -19,6 +19,7 @@ use Rattle.protocol.specs.World.{World}
 use Rattle.protocol_laws.specs.Turn.{Onward}
 use Rattle.protocol_laws.proofs.Fronts.{IsFront, front-self, front-more, payload_in-kept}
 use Rattle.protocol_laws.proofs.Standing.{StandsIn-left}
+use Rattle.protocol_laws.proofs.TransactionsLast.{found_nothing-on}
 
 -- What an entry in a shard says of its transaction is so: its payload is the part in the shard, or it has none, and then
 -- the transaction was taken over; where it is lost, the shard found nothing of it.
@@ -28,28 +29,6 @@ pub record EntrySays (n : ℕ) (t : Moment) (shard : ℕ) (entry : Preparation) 
   pub part : (entry.payload ≡ restricted n shard payload) ⊎ ((entry.payload ≡ None) × WasTaken t entry.txn)
   pub keeps : KeepsPayload entry.payload entry.vote
   pub lost : entry.vote ≡ Lost → FoundNothingBy t entry.txn shard
-
-found_nothing-on : (t u : Moment) (txn : TxId) (shard : ℕ) → Onward t u → FoundNothingBy t txn shard → FoundNothingBy u txn shard
-found_nothing-on t u txn shard o f = record {
-  later = u.now ∷ f.later;
-  after = f.after;
-  before = f.before;
-  earlier = f.earlier;
-  moments = ap (λ ws. u.now ∷ ws) (o.past ∙ f.moments);
-  node = f.node;
-  there = f.there;
-  of_shard = f.of_shard;
-  leads = f.leads;
-  nothing = f.nothing;
-  grown = f.grown;
-  grown_there = f.grown_there;
-  grown_name = f.grown_name;
-  still = f.still;
-  entry = f.entry;
-  appended = f.appended;
-  of_txn = f.of_txn;
-  empty = f.empty;
-}
 
 says-on : (n : ℕ) (t u : Moment) (shard : ℕ) (entry : Preparation) → Onward t u → EntrySays n t shard entry → EntrySays n u shard entry
 says-on n t u shard entry o s = record {

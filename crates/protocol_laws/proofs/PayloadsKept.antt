@@ -20,10 +20,7 @@ use Rattle.protocol_laws.specs.Change.{Change, Passes, Stops, Acts, AtService, C
 use Rattle.protocol_laws.specs.Effect.{GoesOn, Waiting, Decides, Effect, Rests, Certifies, TakesOver, Nudges, Moves, Lowers, Reads, Asks, AnswersAgain, Appends, Votes, Acknowledges, Changes, Learns, Keeps, Accepts, Marks, Promises, Chooses, FindsLow, Leads, Follows, Gathers, FollowsPieces}
 use Rattle.protocol_laws.specs.Runs.{EventStands}
 use Rattle.protocol_laws.proofs.HistoryKept.{ArePayloads}
-
-goes_on-begins : (c : Coordinator) (txn : TxId) (case : Case) (sends : List Outgoing) (out : Out Coordinator) (begun : TxId) (whole : Accesses) → GoesOn c txn case sends out → StandsIn (Begin begun whole) out.notes → ⊥
-goes_on-begins c txn case sends o begun whole (Waiting h) s = s
-goes_on-begins c txn case sends o begun whole (Decides h) s = elim s [ inl k ↦ absurd (cc k) | inr z ↦ absurd z ]
+use Rattle.protocol_laws.proofs.TransactionsNotes.{goes_on-begins}
 
 -- what begins was asked to be certified
 effect-begins : (tests : Tests) (version : ℕ) (node : NodeRecord) (input : Input) (out : Out NodeRecord) (begun : TxId) (whole : Accesses) → Effect tests version node input out → StandsIn (Begin begun whole) out.notes → inputs.Certify whole ≡ input

@@ -23,7 +23,7 @@ use Rattle.protocol_laws.specs.Change.Change.{Passes, Stops, Acts, AtService}
 use Rattle.protocol_laws.specs.Effect.{Effect}
 use Rattle.protocol_laws.specs.Turn.{Turn, Grows, GrewFrom, Onward}
 use Rattle.protocol_laws.proofs.After.{put_node-back}
-use Rattle.protocol_laws.proofs.Lasting.{one_node, reached-back, held-back}
+use Rattle.protocol_laws.proofs.Lasting.{one_node, reached-back, held-back, grows-state}
 use Rattle.protocol_laws.proofs.OnwardOf.{onward_of}
 use Rattle.protocol_laws.proofs.ConfigurationsHad.{Heard}
 use Rattle.protocol_laws.proofs.ConfigurationsInputs.{delivered}
@@ -78,16 +78,12 @@ change_keeps tests setup t event h v f on (Acts e name old input out k o there n
 ]
 change_keeps tests setup t event h v f on (AtService number from message sent out e o s x) node n = old_keeps t _ v.promises on node n
 
--- a state epoch does not fall
-state-on : (old new : NodeRecord) → Grows old new → old.state ≤ new.state
-state-on old new g = elim g.state [ inl e ↦ omega (arith, e) | inr l ↦ omega (arith, l) ]
-
 -- what a node reached is no later than its state epoch
 reached_kept : (setup : Deployment) (t u : Moment) → ConfigurationsHold setup u → Onward t u → PromisesHold t → (node : NodeRecord) (epoch : ℕ) → IsNode u node → Reached u epoch node.name → epoch ≤ node.state
 reached_kept setup t u c o p node epoch n r = elim (reached-back t u epoch node.name o r) [
   | inl q ↦ (let g : GrewFrom t node = o.back node n in
       let l : epoch ≤ g.old.state = p.reached g.old epoch g.is (subst (λ m. Reached t epoch m) g.grows.name q) in
-      omega (arith, l, state-on g.old node g.grows))
+      omega (arith, l, grows-state g.old node g.grows))
   | inr q ↦ (let s : q.node ≡ node = one_node setup u q.node node c q.is n q.named in
       let e : node.state ≡ epoch = ap (λ m. m.state) (sym s) ∙ q.in_epoch in
       omega (arith, e))

@@ -24,8 +24,9 @@ use Rattle.protocol_laws.specs.Effect.{MayFollow, Effect}
 use Rattle.protocol_laws.specs.Effect.Effect.{Rests, Certifies, TakesOver, Nudges, Moves, Lowers, Reads, Asks, AnswersAgain, Appends, Votes, Acknowledges, Changes, Learns, Keeps, Accepts, Marks, Promises, Chooses, FindsLow, Leads, Follows, Gathers, FollowsPieces}
 use Rattle.protocol_laws.proofs.ConfigurationsHad.{Heard}
 use Rattle.protocol_laws.proofs.PromisesOrder.{slot_fits}
-use Rattle.protocol_laws.proofs.PromisesRows.{appended-rows, accepted-rows, marked-entries, same_entries-rows}
+use Rattle.protocol_laws.proofs.PromisesRows.{appended-rows, accepted-rows, same_entries-rows}
 use Rattle.protocol_laws.proofs.PromisesPieces.{gathered-rows}
+use Rattle.protocol_laws.proofs.EntriesKept.{entries_of-marked}
 
 -- the role of a node fits another one of the same name, shard, state epoch and promise
 fits_as : (a b : NodeRecord) (role : Role) → b.name ≡ a.name → b.shard ≡ a.shard → b.state ≡ a.state → b.promised ≡ a.promised → FitsRole a role → FitsRole b role
@@ -137,7 +138,7 @@ rows_kept tests version node input out (Changes from config n) b k x = x
 rows_kept tests version node input out (Learns from config coordinator sent stage asked y h) b k x = x
 rows_kept tests version node input out (Keeps from txn decision h n) b k x = x
 rows_kept tests version node input out (Accepts from epoch entry f e t) b k x = accepted-rows node.rows entry x t (b.accept from epoch entry refl)
-rows_kept tests version node input out (Marks from epoch slot txn commit e h) b k x = same_entries-rows node.rows _ (sym (marked-entries node.rows slot (mark_of commit))) x
+rows_kept tests version node input out (Marks from epoch slot txn commit e h) b k x = same_entries-rows node.rows _ (sym (entries_of-marked node.rows slot (mark_of commit))) x
 rows_kept tests version node input out (Promises from epoch l) b k x = x
 rows_kept tests version node input out (Chooses from told shard want epoch probed low e a l) b k x = x
 rows_kept tests version node input out (FindsLow from told shard want epoch probed low e a l) b k x = x

@@ -12,6 +12,7 @@ use Rattle.protocol.specs.Invariant.Logs.{entries_of}
 use Rattle.protocol.specs.Invariant.Time.{StandsIn}
 use Rattle.protocol.proofs.Lists.{StandsIn-append}
 use Rattle.protocol_laws.proofs.Standing.{StandsIn-left}
+use Rattle.protocol_laws.proofs.SameTxn.{same_txn-eq, same_txn-self}
 
 -- a slot in its range
 abbrev pub slot_fits : Preparation → Bool
@@ -27,15 +28,6 @@ abbrev pub InOrder : List Preparation → Type 0
 InOrder [] = Unit {0}
 InOrder (x ∷ xs) = StandsBefore x xs × InOrder xs
 
-pub same_txn-refl : (a : TxId) → same_txn a a ≡ true
-same_txn-refl a = both (a.home == a.home) (a.seq == a.seq) (eq-eqb a.home a.home refl) (eq-eqb a.seq a.seq refl)
-
-pub same_txn-eq : (a b : TxId) → same_txn a b ≡ true → a ≡ b
-same_txn-eq a b h =
-    let p : a.home ≡ b.home = eqb-true a.home b.home (left_of (a.home == b.home) (a.seq == b.seq) h) in
-    let q : a.seq ≡ b.seq = eqb-true a.seq b.seq (right_of (a.home == b.home) (a.seq == b.seq) h) in
-    λ i. record { home = p i; seq = q i }
-
 ascends-rest : (n : ℕ) (ns : List ℕ) → ascends (n ∷ ns) ≡ true → ascends ns ≡ true
 ascends-rest n [] h = refl
 ascends-rest n (k ∷ ns) h = right_of (nat_lt n k) (ascends (k ∷ ns)) h
@@ -49,7 +41,7 @@ ascends-lower n (k ∷ ns) h m (inr s) =
 
 differ-apart : (t : TxId) (ts : List TxId) → list_any (same_txn t) ts ≡ false → (u : TxId) → StandsIn u ts → t ≡ u → ⊥
 differ-apart t [] h u s e = absurd s
-differ-apart t (v ∷ vs) h u (inl q) e = let k : same_txn t v ≡ true = subst (λ w. same_txn t w ≡ true) (e ∙ q) (same_txn-refl t) in go (same_txn t v) k h
+differ-apart t (v ∷ vs) h u (inl q) e = let k : same_txn t v ≡ true = subst (λ w. same_txn t w ≡ true) (e ∙ q) (same_txn-self t) in go (same_txn t v) k h
   where
     go : (b : Bool) → b ≡ true → (b || list_any (same_txn t) vs) ≡ false → ⊥
     go true k h = cc h

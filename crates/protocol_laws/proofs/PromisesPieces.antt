@@ -17,8 +17,7 @@ use Rattle.protocol.specs.Invariant.Logs.{entries_of}
 use Rattle.protocol.specs.Invariant.Time.{StandsIn}
 use Rattle.protocol.proofs.Lists.{StandsIn-append, all-StandsIn}
 use Rattle.protocol_laws.proofs.PromisesOrder.{slot_fits, InOrder, rows-in_order, in_order-rows, in_order-left, in_order-right}
-use Rattle.protocol_laws.proofs.ConfigurationsLists.{each-list_all}
-use Rattle.protocol_laws.proofs.Standing.{StandsIn-left, StandsIn-right}
+use Rattle.protocol_laws.proofs.Standing.{StandsIn-left, StandsIn-right, all-from}
 
 -- a part of rows that may stand in a log may stand in one
 pub piece-rows : (rows : List Row) (number : ℕ) → AreRows rows → AreRows (piece_of rows number)
@@ -64,7 +63,7 @@ whole-rows kept piece a b w =
     let rows : List Row = rows_of (with_piece kept piece) in
     record {
       slots_ascend = left_of (ascends (map (λ r. r.entry.slot) rows)) (txns_differ (map (λ r. r.entry.txn) rows)) w;
-      slots = each-list_all (λ r. slot_fits r.entry) rows (λ r s. elim (more-rows kept piece r s) [ inl p ↦ row-fits (rows_of kept) r a p | inr q ↦ row-fits piece.rows r b q ]);
+      slots = all-from (λ r. slot_fits r.entry) rows (λ r s. elim (more-rows kept piece r s) [ inl p ↦ row-fits (rows_of kept) r a p | inr q ↦ row-fits piece.rows r b q ]);
       txns_differ = right_of (ascends (map (λ r. r.entry.slot) rows)) (txns_differ (map (λ r. r.entry.txn) rows)) w;
     }
 

@@ -12,15 +12,16 @@ use Rattle.tcs_terms.proofs.BoolLaws.{both, neither_right}
 use Rattle.protocol.specs.Log.{row_of, row_at, last_slot, slot_or_zero, is_full, undecided, has_at, is_taken, accepted, put_entry, marked, set_mark}
 use Rattle.protocol.specs.Invariant.Logs.{entries_of}
 use Rattle.protocol.specs.Invariant.Time.{StandsIn}
-use Rattle.protocol_laws.proofs.PromisesOrder.{slot_fits, InOrder, same_txn-refl, rows-in_order, in_order-rows, in_order-join, in_order-filter, filtered-StandsIn, in_order-apart}
+use Rattle.protocol_laws.proofs.PromisesOrder.{slot_fits, InOrder, rows-in_order, in_order-rows, in_order-join, in_order-filter, filtered-StandsIn, in_order-apart}
 use Rattle.protocol_laws.proofs.Standing.{IsMapped, map-StandsIn, find-none}
+use Rattle.protocol_laws.proofs.SameTxn.{same_txn-self}
 
 -- a transaction without a row is that of no entry
 pub no_row : (rows : List Row) (txn : TxId) → row_of rows txn ≡ None → (y : Preparation) → StandsIn y (entries_of rows) → y.txn ≡ txn → ⊥
 no_row rows txn h y s e =
     let r : IsMapped (λ q. q.entry) rows y = map-StandsIn (λ q. q.entry) rows y s in
     let f : same_txn r.from.entry.txn txn ≡ false = find-none (λ q. same_txn q.entry.txn txn) rows r.from h r.there in
-    let t : same_txn r.from.entry.txn txn ≡ true = subst (λ x. same_txn x txn ≡ true) (sym e ∙ ap (λ m. m.txn) r.is) (same_txn-refl txn) in
+    let t : same_txn r.from.entry.txn txn ≡ true = subst (λ x. same_txn x txn ≡ true) (sym e ∙ ap (λ m. m.txn) r.is) (same_txn-self txn) in
     cc (f, t)
 
 -- the last slot is the greatest
@@ -113,15 +114,6 @@ accepted-rows rows x a t f = go (has_at rows x.slot x.txn) t
     go : (b : Bool) → (not b && (is_some (row_at rows x.slot) || is_some (row_of rows x.txn))) ≡ false → AreRows (cond b rows (put_entry rows x))
     go true h = a
     go false h = put-rows rows x a (is-none (row_of rows x.txn) (neither_right (is_some (row_at rows x.slot)) (is_some (row_of rows x.txn)) h)) f
-
--- marks leave the entries
-pub marked-entries : (rows : List Row) (slot : ℕ) (mark : Mark) → entries_of (marked rows slot mark) ≡ entries_of rows
-marked-entries [] slot mark = refl
-marked-entries (r ∷ rs) slot mark = go (r.entry.slot == slot) (marked-entries rs slot mark)
-  where
-    go : (b : Bool) → entries_of (marked rs slot mark) ≡ entries_of rs → ((cond b (set_mark mark r) r).entry ∷ entries_of (marked rs slot mark)) ≡ (r.entry ∷ entries_of rs)
-    go true ih = ap (λ xs. r.entry ∷ xs) ih
-    go false ih = ap (λ xs. r.entry ∷ xs) ih
 
 -- rows of the same entries
 pub same_entries-rows : (xs ys : List Row) → entries_of xs ≡ entries_of ys → AreRows xs → AreRows ys

@@ -11,8 +11,8 @@ use Rattle.protocol.specs.Service.{last_config, config_at, last_epoch, holds_bac
 use Rattle.protocol.proofs.Lists.{find-StandsIn}
 use Rattle.protocol_laws.specs.Change.{Serves, HoldsBack, Tells, Stores}
 use Rattle.protocol_laws.specs.Effect.{Silent}
-use Rattle.protocol_laws.proofs.Stands.{filter-StandsIn, last_or-StandsIn}
 use Rattle.protocol_laws.proofs.Guards.{by_guard, by_option, no_notice, are_notices}
+use Rattle.protocol_laws.proofs.Standing.{last_or-StandsIn, filter-StandsIn}
 
 -- a message that the service holds back
 holds_quietly : (nodes : ℕ) (configs : List Membership) (from : ℕ) (message : Message) (mark : ℕ) → Serves nodes configs from message (holds_back configs mark)
@@ -27,7 +27,7 @@ holds_noticed nodes configs from message kind mark = HoldsBack message (Held mar
 pub last_config-StandsIn : (configs : List Membership) (shard : ℕ) (c : Membership) → last_config configs shard ≡ Some c → StandsIn c configs
 last_config-StandsIn configs shard c h = elim (last_or-StandsIn None (filter (λ d. d.shard == shard) configs) c h) [
   | inl e ↦ absurd (cc e)
-  | inr s ↦ filter-StandsIn (λ d. d.shard == shard) configs c s
+  | inr s ↦ (filter-StandsIn (λ d. d.shard == shard) configs c s).0
 ]
 
 -- STORED of a configuration that is stored

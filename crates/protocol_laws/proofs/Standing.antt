@@ -1,8 +1,11 @@
--- Lemmas on what stands in joined, mapped and filtered lists.
-use Rattle.std.proofs.Common.{◌≡◌, Bool, true, false, cond, List, [], ◌∷◌, ◌++◌, map, filter, find, Some, None, inl, inr, ap, refl}
-use Rattle.std.specs.List.{list_all}
-use Rattle.std.proofs.lemmas.Bool.{and_from}
+-- What stands in a list that is joined, mapped, filtered, cut or searched, and what passes a test of its elements.
+use Rattle.std.proofs.Common.{◌≡◌, ℕ, zero, suc, ◌+◌, ◌<◌, ◌≤◌, Bool, true, false, cond, ◌==◌, ◌&&◌, ◌||◌, List, [], ◌∷◌, ◌++◌, map, flat_map, filter, find, take, drop, slice_get, Option, Some, None, ◌⊎◌, inl, inr, sym, ap, subst, refl, arith, eq-eqb}
+use Rattle.std.proofs.Math.Nat.{eq-or-lt_of_le}
+use Rattle.std.specs.List.{list_all, list_any, last_or, range_with_len}
+use Rattle.std.proofs.lemmas.Bool.{and_from, or_left, or_right}
+use Rattle.tcs_terms.specs.Places.{is_among}
 use Rattle.protocol.specs.Invariant.Time.{StandsIn}
+use Rattle.protocol.proofs.Lists.{StandsIn-append}
 
 -- what stands in a list stands in it joined with another one
 pub StandsIn-left : {X : Type 0} (xs ys : List X) (x : X) → StandsIn x xs → StandsIn x (xs ++ ys)
@@ -65,3 +68,66 @@ find-none {X = X} p (z ∷ zs) x h s = go (p z) refl h s (find-none p zs x)
 pub all-from : {X : Type 0} (p : X → Bool) (xs : List X) → ((x : X) → StandsIn x xs → p x ≡ true) → list_all p xs ≡ true
 all-from p [] h = refl
 all-from p (z ∷ zs) h = and_from (p z) (list_all p zs) (h z (inl refl)) (all-from p zs (λ x s. h x (inr s)))
+
+-- the last element of a list stands in it, or is what was given for an empty one
+pub last_or-StandsIn : {X : Type 0} (o : Option X) (xs : List X) (x : X) → last_or o xs ≡ Some x → (o ≡ Some x) ⊎ StandsIn x xs
+last_or-StandsIn o [] x h = inl h
+last_or-StandsIn o (y ∷ ys) x h = elim (last_or-StandsIn (Some y) ys x h) [ inl e ↦ inr (inl (cc e)) | inr s ↦ inr (inr s) ]
+
+-- an element that is got from a place stands in the list
+pub slice_get-StandsIn : {X : Type 0} (xs : List X) (i : ℕ) (x : X) → slice_get xs i ≡ Some x → StandsIn x xs
+slice_get-StandsIn [] i x h = absurd (cc h)
+slice_get-StandsIn (y ∷ ys) zero x h = inl (cc h)
+slice_get-StandsIn (y ∷ ys) (suc i) x h = inr (slice_get-StandsIn ys i x h)
+
+pub StandsIn-among : (xs : List ℕ) (n : ℕ) → StandsIn n xs → is_among xs n ≡ true
+StandsIn-among [] n s = absurd s
+StandsIn-among (x ∷ xs) n (inl e) = ap (λ v. v || is_among xs n) (eq-eqb x n (sym e))
+StandsIn-among (x ∷ xs) n (inr s) = go (x == n) (StandsIn-among xs n s)
+  where
+    go : (b : Bool) → is_among xs n ≡ true → (b || is_among xs n) ≡ true
+    go true h = refl
+    go false h = h
+
+-- an element that passes a test is one of those that do
+pub any-from : {X : Type 0} (p : X → Bool) (xs : List X) (x : X) → StandsIn x xs → p x ≡ true → list_any p xs ≡ true
+any-from p [] x s h = absurd s
+any-from p (y ∷ ys) x (inl e) h = or_left (p y) (list_any p ys) (subst (λ z. p z ≡ true) e h)
+any-from p (y ∷ ys) x (inr s) h = or_right (p y) (list_any p ys) (any-from p ys x s h)
+
+-- the element whose list a joined one comes from
+pub record IsPiece {X Y : Type 0} (f : X → List Y) (xs : List X) (y : Y) : Type 0 where
+  pub source : X
+  pub among : StandsIn source xs
+  pub within : StandsIn y (f source)
+
+pub flat_map-StandsIn : {X Y : Type 0} (f : X → List Y) (xs : List X) (y : Y) → StandsIn y (flat_map f xs) → IsPiece f xs y
+flat_map-StandsIn f [] y s = absurd s
+flat_map-StandsIn f (x ∷ xs) y s = elim (StandsIn-append (f x) (flat_map f xs) y s) [
+  | inl r ↦ record { source = x; among = inl refl; within = r }
+  | inr r ↦ (let i : IsPiece f xs y = flat_map-StandsIn f xs y r in record { source = i.source; among = inr i.among; within = i.within })
+]
+
+pub take-StandsIn : {X : Type 0} (k : ℕ) (xs : List X) (x : X) → StandsIn x (take k xs) → StandsIn x xs
+take-StandsIn zero xs x s = absurd s
+take-StandsIn (suc k) [] x s = absurd s
+take-StandsIn (suc k) (y ∷ ys) x (inl e) = inl e
+take-StandsIn (suc k) (y ∷ ys) x (inr s) = inr (take-StandsIn k ys x s)
+
+pub drop-StandsIn : {X : Type 0} (k : ℕ) (xs : List X) (x : X) → StandsIn x (drop k xs) → StandsIn x xs
+drop-StandsIn zero xs x s = s
+drop-StandsIn (suc k) [] x s = absurd s
+drop-StandsIn (suc k) (y ∷ ys) x s = inr (drop-StandsIn k ys x s)
+
+-- what stands in a range of numbers
+pub StandsIn-range : (from count k : ℕ) → from ≤ k → k < from + count → StandsIn k (range_with_len from count)
+StandsIn-range from zero k l h = absurd (omega (arith, l, h))
+StandsIn-range from (suc n) k l h = elim (eq-or-lt_of_le l) [
+  | inl e ↦ inl (sym e)
+  | inr m ↦ inr (StandsIn-range (from + 1) n k (omega (arith, m)) (omega (arith, h)))
+]
+
+pub range-StandsIn : (from count k : ℕ) → StandsIn k (range_with_len from count) → (from ≤ k) × (k < from + count)
+range-StandsIn from zero k s = absurd s
+range-StandsIn from (suc n) k (inl e) = (omega (arith, e), omega (arith, e))
+range-StandsIn from (suc n) k (inr s) = let r : (from + 1 ≤ k) × (k < from + 1 + n) = range-StandsIn (from + 1) n k s in (omega (arith, r.0), omega (arith, r.1))

@@ -9,7 +9,7 @@ use Rattle.protocol_laws.proofs.Numbered.{numbered-above, numbered-one}
 use Rattle.protocol_laws.proofs.Standing.{StandsIn-filter}
 
 -- a stored configuration stands among those of its shard
-stands_in_shard : (t : Moment) (shard : ℕ) (c : Membership) → IsStored t c → c.shard ≡ shard → StandsIn c (filter (λ x. x.shard == shard) t.now.configs)
+pub stands_in_shard : (t : Moment) (shard : ℕ) (c : Membership) → IsStored t c → c.shard ≡ shard → StandsIn c (filter (λ x. x.shard == shard) t.now.configs)
 stands_in_shard t shard c s e = StandsIn-filter (λ x. x.shard == shard) t.now.configs c s (eq-eqb c.shard shard e)
 
 -- the epochs of stored configurations begin at 1

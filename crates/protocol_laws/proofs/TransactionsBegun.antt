@@ -16,12 +16,9 @@ use Rattle.protocol.specs.Invariant.Time.{Moment, goes_to, StandsIn}
 use Rattle.protocol.specs.Invariant.Transactions.{IsBegun}
 use Rattle.protocol_laws.specs.Turn.{Turn}
 use Rattle.protocol_laws.proofs.TransactionsCame.{Acted, acted_back}
-use Rattle.protocol_laws.proofs.TransactionsLists.{same_txn-eq}
 use Rattle.protocol_laws.proofs.TransactionsNotes.{BeginsNext, begins_next}
 use Rattle.protocol_laws.proofs.TransferEvents.{effect_name}
-
-pub same_txn-refl : (a : TxId) → same_txn a a ≡ true
-same_txn-refl a = ap (λ b. b && (a.seq == a.seq)) (eq-eqb a.home a.home refl) ∙ eq-eqb a.seq a.seq refl
+use Rattle.protocol_laws.proofs.SameTxn.{same_txn-self, same_txn-eq}
 
 -- where no note begins a transaction
 abbrev NotBegun : List Note → TxId → Type 0
@@ -38,7 +35,7 @@ not_begins txn (notes.ReadValue name v value) h k = refl
 not_begins txn (notes.Decide other d) h k = refl
 
 begins_it : (txn : TxId) (payload : Accesses) → begins_with txn (notes.Begin txn payload) ≡ Some payload
-begins_it txn payload = ap (λ b. cond b (Some payload) None) (same_txn-refl txn)
+begins_it txn payload = ap (λ b. cond b (Some payload) None) (same_txn-self txn)
 
 first_begun : (h : List Note) (txn : TxId) (payload : Accesses) → NotBegun h txn → payload_in (h ++ notes.Begin txn payload ∷ []) txn ≡ Some payload
 first_begun [] txn payload k = ap (λ o. first_some o None) (begins_it txn payload)

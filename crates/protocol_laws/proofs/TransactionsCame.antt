@@ -60,7 +60,7 @@ pub data HistoryCame (tests : Tests) (version : ℕ) (w : World) (event : Event)
   NothingNoted : h.after.history ≡ w.history → HistoryCame tests version w event h
   NodeNotes : (a : Acted tests version w event h) → h.after.history ≡ w.history ++ a.out.notes → HistoryCame tests version w event h
 
-serves_no_notes : (nodes : ℕ) (configs : List Membership) (from : ℕ) (message : Message) (out : Out (List Membership)) → Serves nodes configs from message out → out.notes ≡ []
+pub serves_no_notes : (nodes : ℕ) (configs : List Membership) (from : ℕ) (message : Message) (out : Out (List Membership)) → Serves nodes configs from message out → out.notes ≡ []
 serves_no_notes nodes configs from _ _ (HoldsBack message answer notices a) = refl
 serves_no_notes nodes configs from _ _ (Tells message c s) = refl
 serves_no_notes nodes configs from _ _ (Stores c last a b e) = refl

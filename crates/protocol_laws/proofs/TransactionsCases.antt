@@ -30,8 +30,9 @@ use Rattle.protocol_laws.specs.Effect.Effect.{Certifies, TakesOver, Votes, Ackno
 use Rattle.protocol_laws.proofs.TransactionsActing.{Acting}
 use Rattle.protocol_laws.proofs.TransactionsLast.{entry_fits-on, case_fits-on, is_begun-on}
 use Rattle.protocol_laws.proofs.Standing.{IsMapped, map-StandsIn}
-use Rattle.protocol_laws.proofs.TransactionsLists.{same_txn-eq, lookup-StandsIn, set_value-StandsIn, remove_entry-StandsIn}
+use Rattle.protocol_laws.proofs.TransactionsLists.{lookup-StandsIn, set_value-StandsIn, remove_entry-StandsIn}
 use Rattle.protocol_laws.proofs.TransactionsPlaces.{views_length}
+use Rattle.protocol_laws.proofs.SameTxn.{same_txn-eq}
 
 -- all cases of a coordinator fit
 abbrev pub CasesFit : ℕ → Moment → Coordinator → Type 0

@@ -5,48 +5,7 @@ use Rattle.tcs_terms.specs.declared.ids.TxId.{TxId}
 use Rattle.tcs_terms.specs.Logs.{same_txn}
 use Rattle.protocol.specs.Invariant.Time.{StandsIn}
 use Rattle.protocol.proofs.FirstRoles.{and-left, and-right}
-
--- the element whose list a joined one comes from
-pub record IsPiece {X Y : Type 0} (f : X → List Y) (xs : List X) (y : Y) : Type 0 where
-  pub source : X
-  pub among : StandsIn source xs
-  pub within : StandsIn y (f source)
-
-pub flat_map-StandsIn : {X Y : Type 0} (f : X → List Y) (xs : List X) (y : Y) → StandsIn y (flat_map f xs) → IsPiece f xs y
-flat_map-StandsIn f [] y s = absurd s
-flat_map-StandsIn {X = X} {Y = Y} f (x ∷ xs) y s = go (f x) refl s (flat_map-StandsIn f xs y)
-  where
-    later : IsPiece f xs y → IsPiece f (x ∷ xs) y
-    later i = record { source = i.source; among = inr i.among; within = i.within }
-
-    here : (ys : List Y) → f x ≡ ys → StandsIn y ys → IsPiece f (x ∷ xs) y
-    here ys e q = record { source = x; among = inl refl; within = rw e q }
-
-    split : (ys zs : List Y) → StandsIn y (ys ++ zs) → StandsIn y ys ⊎ StandsIn y zs
-    split [] zs q = inr q
-    split (z ∷ ys) zs (inl q) = inl (inl q)
-    split (z ∷ ys) zs (inr q) = elim (split ys zs q) [ inl r ↦ inl (inr r) | inr r ↦ inr r ]
-
-    go : (ys : List Y) → f x ≡ ys → StandsIn y (ys ++ flat_map f xs) → (StandsIn y (flat_map f xs) → IsPiece f xs y) → IsPiece f (x ∷ xs) y
-    go ys e q ih = elim (split ys (flat_map f xs) q) [ inl r ↦ here ys e r | inr r ↦ later (ih r) ]
-
-pub take-StandsIn : {X : Type 0} (k : ℕ) (xs : List X) (x : X) → StandsIn x (take k xs) → StandsIn x xs
-take-StandsIn zero xs x s = absurd s
-take-StandsIn (suc k) [] x s = absurd s
-take-StandsIn (suc k) (y ∷ ys) x (inl e) = inl e
-take-StandsIn (suc k) (y ∷ ys) x (inr s) = inr (take-StandsIn k ys x s)
-
-pub drop-StandsIn : {X : Type 0} (k : ℕ) (xs : List X) (x : X) → StandsIn x (drop k xs) → StandsIn x xs
-drop-StandsIn zero xs x s = s
-drop-StandsIn (suc k) [] x s = absurd s
-drop-StandsIn (suc k) (y ∷ ys) x s = inr (drop-StandsIn k ys x s)
-
--- two transactions that pass as one are one
-pub same_txn-eq : (a b : TxId) → same_txn a b ≡ true → a ≡ b
-same_txn-eq a b h =
-    let home : a.home ≡ b.home = eqb-true a.home b.home (and-left (a.home == b.home) (a.seq == b.seq) h) in
-    let seq : a.seq ≡ b.seq = eqb-true a.seq b.seq (and-right (a.home == b.home) (a.seq == b.seq) h) in
-    ap₂ (λ home seq. record { home = home; seq = seq }) home seq
+use Rattle.protocol_laws.proofs.SameTxn.{same_txn-eq}
 
 pub lookup-StandsIn : {X : Type 0} (txn : TxId) (es : List (TxId × X)) (x : X) → lookup (same_txn txn) es ≡ Some x → StandsIn (txn, x) es
 lookup-StandsIn txn [] x h = absurd (cc h)

@@ -37,8 +37,7 @@ use Rattle.protocol_laws.specs.Effect.Effect.{Rests, Certifies, TakesOver, Nudge
 use Rattle.protocol_laws.proofs.TransactionsActing.{Acting}
 use Rattle.protocol_laws.proofs.TransactionsCases.{acting_cases, old_cases_fit, voted_now, voted_case, acknowledged_case}
 use Rattle.protocol_laws.proofs.TransactionsLast.{has_begun-on}
-use Rattle.protocol_laws.proofs.Standing.{IsMapped, map-StandsIn, StandsIn-right}
-use Rattle.protocol_laws.proofs.TransactionsLists.{IsPiece, flat_map-StandsIn, take-StandsIn, drop-StandsIn}
+use Rattle.protocol_laws.proofs.Standing.{IsMapped, map-StandsIn, StandsIn-right, IsPiece, flat_map-StandsIn, take-StandsIn, drop-StandsIn}
 use Rattle.protocol_laws.proofs.TransactionsPlaces.{view_is, views_length, IsView}
 use Rattle.protocol_laws.proofs.TransactionsSends.{SendsFit, sends_both, sends_one, AreViews, case_sends, resends, accept_sends, leader_asked, decision_told}
 

@@ -22,15 +22,15 @@ use Rattle.protocol_laws.specs.Effect.GoesOn.{Waiting, Decides}
 use Rattle.protocol_laws.specs.Effect.Effect.{Certifies, TakesOver, Reads, Votes, Acknowledges}
 use Rattle.protocol_laws.specs.Turn.{Turn, GrewFrom}
 use Rattle.protocol_laws.proofs.OnwardOf.{onward_of}
-use Rattle.protocol_laws.proofs.TransactionsLists.{same_txn-eq}
 use Rattle.protocol_laws.proofs.TransactionsLast.{Goes}
 use Rattle.protocol_laws.proofs.TransactionsCame.{Acted, HistoryCame, NoteCame, history_came, note_came, acted_back}
 use Rattle.protocol_laws.proofs.TransactionsCame.HistoryCame.{NothingNoted, NodeNotes}
 use Rattle.protocol_laws.proofs.TransactionsCame.NoteCame.{WasNotedBefore, NodeNoted}
 use Rattle.protocol_laws.proofs.TransferEvents.{effect_name}
+use Rattle.protocol_laws.proofs.SameTxn.{same_txn-eq}
 
 -- a case that goes on notes no beginning
-goes_on-begins : (c : Coordinator) (txn : TxId) (case : Case) (sends : List Outgoing) (out : Out Coordinator) (begun : TxId) (payload : Accesses) → GoesOn c txn case sends out
+pub goes_on-begins : (c : Coordinator) (txn : TxId) (case : Case) (sends : List Outgoing) (out : Out Coordinator) (begun : TxId) (payload : Accesses) → GoesOn c txn case sends out
     → StandsIn (notes.Begin begun payload) out.notes → ⊥
 goes_on-begins c txn case sends _ begun payload (Waiting h) s = s
 goes_on-begins c txn case sends _ begun payload (Decides h) (inl e) = cc e

@@ -21,8 +21,7 @@ use Rattle.protocol.proofs.Lists.{StandsIn-append}
 use Rattle.protocol_laws.proofs.TransferPieces.{with_piece-StandsIn, same_config-is}
 use Rattle.protocol_laws.specs.Effect.{Effect}
 use Rattle.protocol_laws.specs.Effect.Effect.{Appends, Accepts, Marks, Leads, Follows, FollowsPieces}
-use Rattle.protocol_laws.proofs.Standing.{IsMapped, map-StandsIn, filter-StandsIn}
-use Rattle.protocol_laws.proofs.TransactionsLists.{IsPiece, flat_map-StandsIn}
+use Rattle.protocol_laws.proofs.Standing.{IsMapped, map-StandsIn, filter-StandsIn, IsPiece, flat_map-StandsIn}
 
 -- A row that a node has after an input: it was there, got a mark, or came with the input or a piece that was kept.
 pub data RowCame (tests : Tests) (node new : NodeRecord) (r : Row) : Input → Type 0 where

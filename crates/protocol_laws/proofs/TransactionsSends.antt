@@ -22,8 +22,7 @@ use Rattle.protocol.specs.Invariant.Time.{Moment, StandsIn, IsNode, IsStored}
 use Rattle.protocol.specs.Invariant.Transactions.{HasBegun, WasTaken, IsPart, VoteNames, CauseNames, DecisionNames, EntryFits, PrepareFits, MessageFits, CaseFits}
 use Rattle.protocol.proofs.Lists.{find-StandsIn, StandsIn-append}
 use Rattle.protocol_laws.proofs.TransactionsCases.{CasesFit}
-use Rattle.protocol_laws.proofs.Standing.{IsMapped, map-StandsIn, filter-StandsIn}
-use Rattle.protocol_laws.proofs.TransactionsLists.{IsPiece, flat_map-StandsIn}
+use Rattle.protocol_laws.proofs.Standing.{IsMapped, map-StandsIn, filter-StandsIn, IsPiece, flat_map-StandsIn}
 use Rattle.protocol_laws.proofs.TransactionsPlaces.{IsView}
 use Rattle.protocol_laws.proofs.TransferConfigs.{member_shard, leads_member}
 

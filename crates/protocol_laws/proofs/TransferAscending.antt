@@ -6,9 +6,8 @@ use Rattle.tcs_terms.specs.Logs.{same_txn, txns_differ}
 use Rattle.tcs_terms.specs.Order.{ascends}
 use Rattle.tcs_terms.proofs.BoolLaws.{left_of, right_of, not_false}
 use Rattle.protocol.specs.Invariant.Time.{StandsIn}
-use Rattle.protocol_laws.proofs.PromisesOrder.{same_txn-refl}
-use Rattle.protocol_laws.proofs.WithPast.{any-from}
-use Rattle.protocol_laws.proofs.Standing.{StandsIn-map}
+use Rattle.protocol_laws.proofs.Standing.{StandsIn-map, any-from}
+use Rattle.protocol_laws.proofs.SameTxn.{same_txn-self}
 
 pub tail-ascends : {X : Type 0} (f : X → ℕ) (x : X) (xs : List X) → ascends (map f (x ∷ xs)) ≡ true → ascends (map f xs) ≡ true
 tail-ascends f x [] up = refl
@@ -35,7 +34,7 @@ ascending-one f (x ∷ xs) a b up (inr p) (inr q) e = ascending-one f xs a b (ta
 -- a transaction that stands first stands nowhere else
 txn_apart : {X : Type 0} (f : X → TxId) (x : X) (xs : List X) (y : X) → txns_differ (map f (x ∷ xs)) ≡ true → StandsIn y xs → f y ≡ f x → ⊥
 txn_apart f x xs y d s e =
-    let k : list_any (same_txn (f x)) (map f xs) ≡ true = any-from (same_txn (f x)) (map f xs) (f y) (StandsIn-map f xs y s) (ap (same_txn (f x)) e ∙ same_txn-refl (f x)) in
+    let k : list_any (same_txn (f x)) (map f xs) ≡ true = any-from (same_txn (f x)) (map f xs) (f y) (StandsIn-map f xs y s) (ap (same_txn (f x)) e ∙ same_txn-self (f x)) in
     let m : list_any (same_txn (f x)) (map f xs) ≡ false = not_false (list_any (same_txn (f x)) (map f xs)) (left_of (not (list_any (same_txn (f x)) (map f xs))) (txns_differ (map f xs)) d) in
     cc (k, m)
 

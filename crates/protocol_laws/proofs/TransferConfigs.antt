@@ -1,4 +1,4 @@
--- Stored configurations: one for each shard and epoch, from epoch 1 on, and their members' shard.
+-- Of stored configurations, the next one is of a later epoch; the leader is a member, and members are of the shard.
 use Rattle.std.proofs.Common.{◌≡◌, ℕ, zero, suc, ◌+◌, ◌-◌, ◌<◌, ◌≤◌, true, ◌==◌, List, [], ◌∷◌, filter, length, slice_index, Some, inl, inr, sym, ◌∙◌, ap, refl, arith, eqb-true, eq-eqb}
 use Rattle.tcs_terms.specs.Places.{Membership}
 use Rattle.tcs_terms.specs.Setups.{Deployment, has_node, is_node_of}
@@ -9,24 +9,15 @@ use Rattle.protocol.specs.Records.{NodeRecord}
 use Rattle.protocol.specs.Service.{last_config, last_epoch}
 use Rattle.protocol.specs.Views.{epoch_of}
 use Rattle.protocol.proofs.Lists.{all-StandsIn, among-StandsIn}
-use Rattle.protocol_laws.proofs.Numbered.{AreNumbered, numbered-index}
+use Rattle.protocol_laws.proofs.Numbered.{AreNumbered, numbered-index, numbered-below}
 use Rattle.protocol_laws.proofs.Standing.{StandsIn-filter}
 use Rattle.protocol_laws.proofs.TransferEvents.{IsNext}
-
--- a stored configuration among those of its shard
-of_its_shard : (t : Moment) (c : Membership) (shard : ℕ) → IsStored t c → c.shard ≡ shard → StandsIn c (filter (λ (d : Membership). d.shard == shard) t.now.configs)
-of_its_shard t c shard s e = StandsIn-filter (λ (d : Membership). d.shard == shard) t.now.configs c s (eq-eqb c.shard shard e)
-
-numbered-below : {X : Type 0} (f : X → ℕ) (xs : List X) (from count : ℕ) (x : X) → AreNumbered f xs from count → StandsIn x xs → f x < from + count
-numbered-below f [] from count x h s = absurd s
-numbered-below f (y ∷ ys) from zero x h s = absurd (cc h)
-numbered-below f (y ∷ ys) from (suc n) x h (inl e) = let k : f y ≡ from = cc h in let m : f x ≡ from = ap f e ∙ k in omega (arith, m)
-numbered-below f (y ∷ ys) from (suc n) x h (inr s) = omega (arith, numbered-below f ys (from + 1) n x (cc h) s)
+use Rattle.protocol_laws.proofs.Stored.{stands_in_shard}
 
 -- no epoch is above the last one
 pub upto_last : (setup : Deployment) (t : Moment) → ConfigurationsHold setup t → (c last : Membership) → IsStored t c → last_config t.now.configs c.shard ≡ Some last → c.epoch ≤ last.epoch
 upto_last setup t h c last s e =
-    let below : c.epoch < 1 + last_epoch t.now.configs c.shard = numbered-below (λ (d : Membership). d.epoch) (filter (λ (d : Membership). d.shard == c.shard) t.now.configs) 1 (last_epoch t.now.configs c.shard) c (h.epochs c.shard) (of_its_shard t c c.shard s refl) in
+    let below : c.epoch < 1 + last_epoch t.now.configs c.shard = numbered-below (λ (d : Membership). d.epoch) (filter (λ (d : Membership). d.shard == c.shard) t.now.configs) 1 (last_epoch t.now.configs c.shard) c (h.epochs c.shard) (stands_in_shard t c.shard c s refl) in
     let is : last_epoch t.now.configs c.shard ≡ last.epoch = ap epoch_of e in
     omega (arith, below, is)
 

@@ -14,8 +14,7 @@ use Rattle.protocol.specs.Records.Role.{Leader, Follower}
 use Rattle.protocol.specs.World.{World, Happening}
 use Rattle.protocol_laws.specs.Turn.{Turn, Onward}
 use Rattle.protocol_laws.proofs.Lasting.{one_node}
-use Rattle.protocol_laws.proofs.Stands.{last_or-StandsIn}
-use Rattle.protocol_laws.proofs.Standing.{StandsIn-right, filter-StandsIn}
+use Rattle.protocol_laws.proofs.Standing.{StandsIn-right, filter-StandsIn, last_or-StandsIn}
 use Rattle.protocol_laws.proofs.Stored.{stored-some}
 use Rattle.protocol_laws.proofs.TransferConfigs.{leads_member}
 use Rattle.protocol_laws.proofs.TransferEvents.{node_back, config_back, IsNext, IsOfActing, effect_name}

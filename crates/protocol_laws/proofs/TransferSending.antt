@@ -25,10 +25,10 @@ use Rattle.protocol.specs.Views.{view_of, followers}
 use Rattle.protocol.proofs.Lists.{StandsIn-append, find-StandsIn}
 use Rattle.protocol_laws.specs.Effect.{Effect, OpenPart}
 use Rattle.protocol_laws.specs.Effect.Effect.{Rests, Certifies, TakesOver, Nudges, Moves, Lowers, Reads, Asks, AnswersAgain, Appends, Votes, Acknowledges, Changes, Learns, Keeps, Accepts, Marks, Promises, Chooses, FindsLow, Leads, Follows, Gathers, FollowsPieces}
-use Rattle.protocol_laws.proofs.TransactionsLists.{IsPiece, flat_map-StandsIn, same_txn-eq}
-use Rattle.protocol_laws.proofs.Standing.{StandsIn-right, StandsIn-map}
+use Rattle.protocol_laws.proofs.Standing.{StandsIn-right, StandsIn-map, IsPiece, flat_map-StandsIn}
 use Rattle.protocol_laws.proofs.TransferEnters.{BecomesLeader}
 use Rattle.protocol_laws.proofs.TransferSends.{SaysNothing, SayNothing, one-says, append-says, accept-says, AsksIn, AsksAgainFor, new_case-says, resend-says, ask_leader-says, ask_stage-says, notices-says, sees-says, hears-says, goes_on-says, IsPieceOf, state-says}
+use Rattle.protocol_laws.proofs.SameTxn.{same_txn-eq}
 
 -- a part takes the vote of a PREPARE_ACK, or keeps the one that it has
 pub record VotesNow (node : NodeRecord) (input : Input) (view : Membership) (entry : Preparation) : Type 0 where

@@ -26,8 +26,7 @@ use Rattle.protocol_laws.specs.Effect.AreNotices.{Silent, Notice}
 use Rattle.protocol_laws.specs.Effect.GoesOn.{Waiting, Decides}
 use Rattle.protocol_laws.specs.Effect.Sees.{Replaces, Keeps}
 use Rattle.protocol_laws.specs.Effect.Hears.{Waits, ProbesLast, ProbesLower, IsDone}
-use Rattle.protocol_laws.proofs.TransactionsLists.{IsPiece, flat_map-StandsIn}
-use Rattle.protocol_laws.proofs.Standing.{map-StandsIn, IsMapped, filter-StandsIn}
+use Rattle.protocol_laws.proofs.Standing.{map-StandsIn, IsMapped, filter-StandsIn, IsPiece, flat_map-StandsIn, range-StandsIn}
 
 -- a message that says nothing of entries in a log
 abbrev pub SaysNothing : Message → Type 0
@@ -210,11 +209,6 @@ pub record IsPieceOf (config : Membership) (rows : List Row) (o : Outgoing) : Ty
   pub few : number ≤ piece_count rows
   pub is : o.message ≡ StatePiece config number (piece_count rows) (piece_of rows number)
 
-range-within : (a n k : ℕ) → StandsIn k (range_with_len a n) → (a ≤ k) × (k < a + n)
-range-within a zero k s = absurd s
-range-within a (suc n) k (inl e) = (omega (arith, e), omega (arith, e))
-range-within a (suc n) k (inr s) = let h = range-within (a + 1) n k s in (omega (arith, h.0), omega (arith, h.1))
-
 pub state-says : (version : ℕ) (config : Membership) (rows : List Row) (node : ℕ) (o : Outgoing) → StandsIn o (state_to version config rows node) → (o.message ≡ NewState config rows) ⊎ IsPieceOf config rows o
 unfolding state_to when
 state-says version config rows node o s = by (version == 2) s
@@ -223,7 +217,7 @@ state-says version config rows node o s = by (version == 2) s
     by true s =
         let m : IsMapped (λ k. to node (StatePiece config k (piece_count rows) (piece_of rows k))) (range_with_len 1 (piece_count rows)) o
         = map-StandsIn (λ k. to node (StatePiece config k (piece_count rows) (piece_of rows k))) (range_with_len 1 (piece_count rows)) o s in
-        let w = range-within 1 (piece_count rows) m.from m.there in
+        let w = range-StandsIn 1 (piece_count rows) m.from m.there in
         inr (record { number = m.from; some = w.0; few = omega (arith, w.1); is = ap (λ (q : Outgoing). q.message) m.is })
     by false (inl e) = inl (ap (λ (q : Outgoing). q.message) e)
     by false (inr s) = absurd s

@@ -1,4 +1,4 @@
--- Tests of each element of a list with those before it, and what stands in lists of transactions.
+-- Tests of each element of a list with those before it, and an element between others.
 use Rattle.std.proofs.Common.{◌≡◌, Bool, true, ◌==◌, List, [], ◌∷◌, ◌++◌, inl, inr, sym, ap, subst, refl, append_assoc, append-nil, eq-eqb}
 use Rattle.std.specs.List.{list_all, list_any}
 use Rattle.std.proofs.lemmas.Bool.{and_from, or_left, or_right}
@@ -6,6 +6,7 @@ use Rattle.tcs_terms.specs.declared.ids.TxId.{TxId}
 use Rattle.tcs_terms.specs.Logs.{same_txn}
 use Rattle.protocol.specs.Past.{after_past, with_past}
 use Rattle.protocol.specs.Invariant.Time.{StandsIn}
+use Rattle.tcs_terms.proofs.BoolLaws.{left_of, right_of}
 
 -- a test of all pairs, from one of each place
 all-after_past : {X : Type 0} (p : (List X × X) → Bool) (past xs : List X) → ((before : List X) (x : X) (after : List X) → xs ≡ before ++ (x ∷ after) → p (past ++ before, x) ≡ true) → list_all p (after_past past xs) ≡ true
@@ -28,12 +29,6 @@ any-after_past p past (y ∷ before) x after h =
 pub any-with_past : {X : Type 0} (p : (List X × X) → Bool) (before : List X) (x : X) (after : List X) → p (before, x) ≡ true → list_any p (with_past (before ++ (x ∷ after))) ≡ true
 any-with_past p before x after h = any-after_past p [] before x after h
 
--- an element that passes a test is one of those that do
-pub any-from : {X : Type 0} (p : X → Bool) (xs : List X) (x : X) → StandsIn x xs → p x ≡ true → list_any p xs ≡ true
-any-from p [] x s h = absurd s
-any-from p (y ∷ ys) x (inl e) h = or_left (p y) (list_any p ys) (subst (λ z. p z ≡ true) e h)
-any-from p (y ∷ ys) x (inr s) h = or_right (p y) (list_any p ys) (any-from p ys x s h)
-
 -- an element that stands in a list stands between others
 pub record StandsBetween {X : Type 0} (x : X) (xs : List X) : Type 0 where
   pub before : List X
@@ -45,6 +40,13 @@ stands_between [] x s = absurd s
 stands_between (y ∷ ys) x (inl e) = record { before = []; after = ys; is = ap (λ z. z ∷ ys) (sym e) }
 stands_between (y ∷ ys) x (inr s) = let b : StandsBetween x ys = stands_between ys x s in record { before = y ∷ b.before; after = b.after; is = ap (λ zs. y ∷ zs) b.is }
 
--- a transaction is one with itself
-pub same_txn-self : (a : TxId) → same_txn a a ≡ true
-same_txn-self a = and_from (a.home == a.home) (a.seq == a.seq) (eq-eqb a.home a.home refl) (eq-eqb a.seq a.seq refl)
+after_past-each : {X : Type 0} (p : (List X × X) → Bool) (past before : List X) (x : X) (after : List X) → list_all p (after_past past (before ++ (x ∷ after))) ≡ true → p (past ++ before, x) ≡ true
+after_past-each p past [] x after h =
+    subst (λ ys. p (ys, x) ≡ true) (sym (append-nil past)) (left_of (p (past, x)) (list_all p (after_past (past ++ x ∷ []) after)) h)
+after_past-each p past (y ∷ ys) x after h =
+    subst (λ zs. p (zs, x) ≡ true) (append_assoc past (y ∷ []) ys)
+    (after_past-each p (past ++ y ∷ []) ys x after (right_of (p (past, y)) (list_all p (after_past (past ++ y ∷ []) (ys ++ (x ∷ after)))) h))
+
+-- a test of each element with those before it, at one place
+pub with_past-each : {X : Type 0} (p : (List X × X) → Bool) (xs before : List X) (x : X) (after : List X) → list_all p (with_past xs) ≡ true → xs ≡ before ++ (x ∷ after) → p (before, x) ≡ true
+with_past-each p xs before x after h e = after_past-each p [] before x after (subst (λ ys. list_all p (after_past [] ys) ≡ true) e h)
