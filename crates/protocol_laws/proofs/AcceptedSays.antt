@@ -15,9 +15,9 @@ use Rattle.protocol.specs.World.{World}
 use Rattle.protocol.proofs.FirstRoles.{and-right}
 use Rattle.protocol.proofs.Lists.{all-StandsIn}
 use Rattle.protocol_laws.proofs.Numbered.{AreNumbered, numbered-above, numbered-index}
-use Rattle.protocol_laws.proofs.OneEntry.{leader-member}
 use Rattle.protocol_laws.proofs.PastKept.{EntrySays, WorldHolds, PastHolds}
 use Rattle.protocol_laws.proofs.Standing.{IsMapped, map-StandsIn, StandsIn-right}
+use Rattle.protocol_laws.proofs.TransferConfigs.{leads_member}
 
 -- a node of a past world is of the shard that the setup says
 past_shard : (setup : Deployment) (t : Moment) (w : World) (node : NodeRecord) (shard : ℕ) → PastHolds setup t → StandsIn w (worlds t) → StandsIn node w.nodes → is_node_of setup.nodes shard node.name ≡ true → node.shard ≡ shard
@@ -29,7 +29,7 @@ past_shard setup t w node shard p past there of =
 
 pub accepted-says : (tests : Tests) (setup : Deployment) (t : Moment) (c : Membership) (x : Preparation) → InvariantHolds tests setup t → PastHolds setup t → Accepted t c x → EntrySays setup.shards t c.shard x
 accepted-says tests setup t c x i p a =
-    let member : StandsIn c.leader c.members = leader-member tests setup t c i a.stored in
+    let member : StandsIn c.leader c.members = leads_member setup t i.configurations c a.stored in
     let held : Held t c.epoch c.leader x = a.held c.leader member in
     let m : HasMembers setup c = i.configurations.members c a.stored in
     let of : is_node_of setup.nodes c.shard c.leader ≡ true = all-StandsIn (is_node_of setup.nodes c.shard) c.members c.leader m.nodes member in

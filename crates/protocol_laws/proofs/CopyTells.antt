@@ -18,12 +18,13 @@ use Rattle.protocol_laws.proofs.BeforeBegin.{before_begin-front, committed-befor
 use Rattle.protocol_laws.proofs.BegunFirst.{BegunFirst}
 use Rattle.protocol_laws.proofs.CopyAfter.{copy-unwritten, copy-written}
 use Rattle.protocol_laws.proofs.Fronts.{IsFront, payload_in-kept}
-use Rattle.protocol_laws.proofs.LegalOrder.{IsOf, legal-each, payloads-append, payloads-first, payloads-IsOf}
+use Rattle.protocol_laws.proofs.LegalOrder.{IsPayloadOf, legal-each, payloads-append, payloads-first, payload-of}
 use Rattle.protocol_laws.proofs.NamesOnce.{same_name-self}
 use Rattle.protocol_laws.proofs.PayloadReads.{checks-orders, reads-bound, write-found}
 use Rattle.protocol_laws.proofs.Standing.{StandsIn-left, StandsIn-right, any-from}
 use Rattle.protocol_laws.proofs.WithPast.{StandsBetween, stands_between}
 use Rattle.protocol_laws.proofs.WritersRise.{IsLegal, rise-in-order}
+use Rattle.std.proofs.lemmas.Bool.{false_from_ne_true}
 
 -- what readings tell: nothing that was never written, or what a transaction wrote that was committed before
 abbrev pub TellsWritten : List Note → Type 0
@@ -70,20 +71,13 @@ older-bound : (tests : Tests) (h : List Note) (past : List TxId) (t : TxId) (p :
 older-bound tests h past t p r x l s o w =
     reads-bound tests x p r l.checks (l.legal.payloads t p l.payload) (legal-each tests h past t l.after x p l.legal.legal l.order l.payload o) w s
 
-not-written : (x : Accesses) (name : List ℕ) → (writes_name x.writes name ≡ true → ⊥) → writes_name x.writes name ≡ false
-not-written x name h = go (writes_name x.writes name) refl
-  where
-    go : (b : Bool) → writes_name x.writes name ≡ b → b ≡ false
-    go false e = refl
-    go true e = absurd (h e)
-
 -- what a reading told at the version that the transaction read is what the copy has
 pub copy-told : (tests : Tests) (h : List Note) (past : List TxId) (t : TxId) (p : Accesses) (r : ReadPart) (value : List ℕ) → Place tests h past t p → StandsIn r p.reads → Told h past r.name r.version value
     → copy_after (payloads_of h past) r.name ≡ record { version = r.version; value = value }
 copy-told tests h past t p r value l s (Never z e) =
-    copy-unwritten r.name (payloads_of h past) (λ x o. not-written x r.name (λ w.
+    copy-unwritten r.name (payloads_of h past) (λ x o. false_from_ne_true (writes_name x.writes r.name) (λ w.
       let bound : x.version ≤ r.version = older-bound tests h past t p r x l s o w in
-      let of : IsOf h past x = payloads-IsOf h past x o in
+      let of : IsPayloadOf h past x = payload-of h past x o in
       let some : 1 ≤ x.version = (l.legal.payloads of.txn x of.payload).positive in
       omega (arith, bound, some, z)))
     ∙ ap (λ n. record { version = n; value = [] }) (sym z) ∙ ap (λ v. record { version = r.version; value = v }) (sym e)
@@ -97,7 +91,7 @@ copy-told tests h past t p r value l s (Written w q there payload version writes
     let place : order_of h ≡ at.before ++ (w ∷ (at.after ++ (t ∷ l.after))) =
       l.order ∙ ap (λ ts. ts ++ (t ∷ l.after)) at.is ∙ append_assoc at.before (w ∷ at.after) (t ∷ l.after) in
     ap (λ ps. copy_after ps r.name) split
-    ∙ copy-written r.name (payloads_of h at.before) q (payloads_of h at.after) one found (λ x o. not-written x r.name (λ k.
+    ∙ copy-written r.name (payloads_of h at.before) q (payloads_of h at.after) one found (λ x o. false_from_ne_true (writes_name x.writes r.name) (λ k.
       let later : StandsIn x (payloads_of h (at.after ++ (t ∷ l.after))) =
         subst (λ ps. StandsIn x ps) (sym (payloads-append h at.after (t ∷ l.after))) (StandsIn-left (payloads_of h at.after) (payloads_of h (t ∷ l.after)) x o) in
       let rise : q.version < x.version = rise-in-order tests h at.before w (at.after ++ (t ∷ l.after)) q x r.name (checks-orders tests l.checks) l.legal place payload later wrote k in

@@ -20,11 +20,12 @@ use Rattle.protocol.specs.Invariant.Time.{Moment, StandsIn, IsStored}
 use Rattle.protocol.proofs.Lists.{all-StandsIn, among-StandsIn, StandsIn-append}
 use Rattle.protocol_laws.specs.Effect.{OpenPart}
 use Rattle.protocol_laws.proofs.TransactionsActing.{Acting}
-use Rattle.protocol_laws.proofs.TransactionsCases.{put_part_came, part_is, IsPartOf}
 use Rattle.protocol_laws.proofs.Standing.{StandsIn-filter}
 use Rattle.protocol_laws.proofs.TransactionsLists.{lookup-StandsIn}
 use Rattle.protocol_laws.proofs.Stored.{one_config}
 use Rattle.protocol_laws.proofs.TransactionsPlaces.{view_is, IsView}
+use Rattle.protocol_laws.proofs.CaseParts.{part_is, IsPartOf}
+use Rattle.protocol_laws.proofs.EntriesCases.{with_part-holds, voted-holds, acknowledged-holds}
 
 -- whoever acknowledged a listed entry held that entry; where all followers did, it is accepted
 pub all_held : (tests : Tests) (setup : Deployment) (t : Moment) (txn : TxId) (v : Membership) (entry : Preparation) (acks : List ℕ) → InvariantHolds tests setup t → IsStored t v → Listed t v entry
@@ -69,35 +70,14 @@ complete_part tests setup t views txn p i stored = go (view_of views p.shard) p.
       of_txn = k.1;
     }
 
--- the parts of a case hold
-abbrev pub PartsHold : Moment → List Membership → TxId → Case → Type 0
-PartsHold t views txn case = (p : Part) → StandsIn p case.parts → PartHolds t txn (view_of views p.shard) p.entry p.acks
-
--- a case with one part changed, which holds too
-with_part_holds : (t : Moment) (views : List Membership) (txn : TxId) (case : Case) (part : Part) → PartsHold t views txn case → PartHolds t txn (view_of views part.shard) part.entry part.acks → PartsHold t views txn (with_part case part)
-with_part_holds t views txn case part k h p s = elim (put_part_came part case.parts p s) [ inl r ↦ k p r | inr e ↦ subst (λ (x : Part). PartHolds t txn (view_of views x.shard) x.entry x.acks) (sym e) h ]
-
-pub put_part_shards : (part : Part) (parts : List Part) → map (λ p. p.shard) (put_part part parts) ≡ map (λ p. p.shard) parts
-put_part_shards part [] = refl
-put_part_shards part (p ∷ ps) = ap₂ (λ x xs. x ∷ xs) (go (p.shard == part.shard) refl) (put_part_shards part ps)
-  where
-    go : (b : Bool) → (p.shard == part.shard) ≡ b → (cond b part p).shard ≡ p.shard
-    go true e = sym (eqb-true p.shard part.shard e)
-    go false e = refl
-
 -- the case of a node, as it was
 old_case : (tests : Tests) (setup : Deployment) (t u : Moment) (node : NodeRecord) (input : Input) (out : Out NodeRecord) (txn : TxId) (case : Case) → Acting tests setup t u node input out → case_of node.coordinator txn ≡ Some case
     → CaseHolds t node.coordinator.views txn case
 old_case tests setup t u node input out txn case a e = a.before.entries.cases node txn case a.is (lookup-StandsIn txn node.coordinator.cases case e)
 
--- a part that voted
-voted_part : (t : Moment) (view : Membership) (entry : Preparation) (kept : Option Preparation) (acks : List ℕ) → Listed t view entry → PartHolds t entry.txn (Some view) kept acks → PartHolds t entry.txn (Some view) (Some (first_entry kept entry)) acks
-voted_part t view entry None acks l k = (l, refl, λ name s. absurd (subst (λ xs. StandsIn name xs) k s))
-voted_part t view entry (Some x) acks l k = k
-
 pub votes_hold : (tests : Tests) (setup : Deployment) (t u : Moment) (node : NodeRecord) (input : Input) (out : Out NodeRecord) (from shard epoch : ℕ) (entry : Preparation) (case : Case) (part : Part) (view : Membership)
     → Acting tests setup t u node input out → input ≡ inputs.Deliver from (PrepareAck shard epoch entry) → OpenPart node.coordinator entry.txn shard case part view → view.epoch ≡ epoch
-    → PartsHold t node.coordinator.views entry.txn (with_part case (voted part entry))
+    → CaseHolds t node.coordinator.views entry.txn (with_part case (voted part entry))
 votes_hold tests setup t u node input out from shard epoch entry case part view a e o at =
     let is : IsPartOf case.parts shard part = part_is case.parts shard part o.has in
     let c : CaseHolds t node.coordinator.views entry.txn case = old_case tests setup t u node input out entry.txn case a o.opened in
@@ -105,36 +85,16 @@ votes_hold tests setup t u node input out from shard epoch entry case part view 
     let v : IsView t shard view = view_is setup t node shard view a.before.configurations a.is o.sees in
     let same : l.config ≡ view = one_config setup t l.config view a.before.configurations l.stored v.stored (l.of_shard ∙ sym v.of_shard) (l.of_epoch ∙ sym at) in
     let sees : view_of node.coordinator.views part.shard ≡ Some view = ap (λ s. view_of node.coordinator.views s) is.of_shard ∙ o.sees in
-    let old : PartHolds t entry.txn (Some view) part.entry part.acks = subst (λ x. PartHolds t entry.txn x part.entry part.acks) sees (c.parts part is.among) in
-    with_part_holds t node.coordinator.views entry.txn case (voted part entry) c.parts
-    (subst (λ x. PartHolds t entry.txn x (Some (first_entry part.entry entry)) part.acks) (sym sees) (voted_part t view entry part.entry part.acks (subst (λ x. Listed t x entry) same l.listed) old))
-
--- a part that a follower acknowledged
-acknowledged_part : (t : Moment) (txn : TxId) (view : Membership) (from slot : ℕ) (kept : Option Preparation) (acks : List ℕ) → HeldAt t view.epoch from slot txn → voted_at kept slot ≡ true → PartHolds t txn (Some view) kept acks
-    → PartHolds t txn (Some view) kept (add_once acks from)
-acknowledged_part t txn view from slot None acks h e k = absurd (cc e)
-acknowledged_part t txn view from slot (Some x) acks h e k = (k.0, k.1, λ name s. go (is_among acks from) name s)
-  where
-    now : HeldAt t view.epoch from x.slot txn
-    now = subst (λ s. HeldAt t view.epoch from s txn) (sym (eqb-true x.slot slot e)) h
-
-    go : (b : Bool) (name : ℕ) → StandsIn name (cond b acks (acks ++ from ∷ [])) → HeldAt t view.epoch name x.slot txn
-    go true name s = k.2 name s
-    go false name s = elim (StandsIn-append acks (from ∷ []) name s) [ inl r ↦ k.2 name r | inr (inl q) ↦ subst (λ n. HeldAt t view.epoch n x.slot txn) (sym q) now | inr (inr r) ↦ absurd r ]
+    with_part-holds t node.coordinator.views entry.txn case (voted part entry) c
+    (voted-holds t entry.txn view (view_of node.coordinator.views part.shard) part.entry part.acks entry sees (c.parts part is.among) (λ none. subst (λ x. Listed t x entry) same l.listed) refl)
 
 pub acknowledges_hold : (tests : Tests) (setup : Deployment) (t u : Moment) (node : NodeRecord) (input : Input) (out : Out NodeRecord) (from shard epoch slot : ℕ) (txn : TxId) (case : Case) (part : Part) (view : Membership)
     → Acting tests setup t u node input out → input ≡ inputs.Deliver from (AcceptAck shard epoch slot txn) → OpenPart node.coordinator txn shard case part view → view.epoch ≡ epoch → voted_at part.entry slot ≡ true
-    → PartsHold t node.coordinator.views txn (with_part case (acknowledged part from))
+    → CaseHolds t node.coordinator.views txn (with_part case (acknowledged part from))
 acknowledges_hold tests setup t u node input out from shard epoch slot txn case part view a e o at voted =
     let is : IsPartOf case.parts shard part = part_is case.parts shard part o.has in
     let c : CaseHolds t node.coordinator.views txn case = old_case tests setup t u node input out txn case a o.opened in
     let h : HeldAt t epoch from slot txn = a.before.entries.acknowledged from node.name shard epoch slot txn (a.received from (AcceptAck shard epoch slot txn) e) in
     let sees : view_of node.coordinator.views part.shard ≡ Some view = ap (λ s. view_of node.coordinator.views s) is.of_shard ∙ o.sees in
-    let old : PartHolds t txn (Some view) part.entry part.acks = subst (λ x. PartHolds t txn x part.entry part.acks) sees (c.parts part is.among) in
-    with_part_holds t node.coordinator.views txn case (acknowledged part from) c.parts
-    (subst (λ x. PartHolds t txn x part.entry (add_once part.acks from)) (sym sees) (acknowledged_part t txn view from slot part.entry part.acks (subst (λ x. HeldAt t x from slot txn) (sym at) h) voted old))
-
--- the parts of a case that goes on are of its shards still
-pub case_shards : (tests : Tests) (setup : Deployment) (t u : Moment) (node : NodeRecord) (input : Input) (out : Out NodeRecord) (txn : TxId) (case : Case) (part : Part) → Acting tests setup t u node input out → case_of node.coordinator txn ≡ Some case
-    → map (λ p. p.shard) (with_part case part).parts ≡ case.shards
-case_shards tests setup t u node input out txn case part a e = put_part_shards part case.parts ∙ (old_case tests setup t u node input out txn case a e).shards
+    with_part-holds t node.coordinator.views txn case (acknowledged part from) c
+    (acknowledged-holds t txn view (view_of node.coordinator.views part.shard) part.entry part.acks from slot sees (c.parts part is.among) voted (subst (λ x. HeldAt t x from slot txn) (sym at) h))

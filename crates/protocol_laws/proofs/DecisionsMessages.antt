@@ -31,7 +31,7 @@ use Rattle.protocol_laws.specs.Effect.{AreNotices, Sees, OpenPart, Effect}
 use Rattle.protocol_laws.specs.Effect.AreNotices.{Silent, Notice}
 use Rattle.protocol_laws.specs.Effect.Sees.{Replaces}
 use Rattle.protocol_laws.specs.Effect.Effect.{Rests, Certifies, TakesOver, Nudges, Moves, Lowers, Reads, Asks, AnswersAgain, Appends, Votes, Acknowledges, Changes, Learns, Accepts, Promises, Chooses, Leads}
-use Rattle.protocol_laws.proofs.DecisionsAccepted.{votes_hold, acknowledges_hold, case_shards}
+use Rattle.protocol_laws.proofs.DecisionsAccepted.{votes_hold, acknowledges_hold}
 use Rattle.protocol_laws.proofs.DecisionsRows.{acting_rows_hold}
 use Rattle.protocol_laws.proofs.DecisionsTaken.{MessageAgrees, SendsAgree, agree_both, agree_one, IsReady, goes_on_decided, goes_on_told}
 use Rattle.protocol_laws.proofs.TransactionsActing.{Acting}
@@ -124,7 +124,6 @@ votes_ready : (tests : Tests) (setup : Deployment) (t u : Moment) (node : NodeRe
 votes_ready tests setup t u node input out from shard epoch entry case part view a e o at = record {
   fits = voted_case tests setup t u node input out from shard epoch entry case part view a e o;
   holds = votes_hold tests setup t u node input out from shard epoch entry case part view a e o at;
-  shards = case_shards tests setup t u node input out entry.txn case (voted part entry) a o.opened;
 }
 
 acknowledges_ready : (tests : Tests) (setup : Deployment) (t u : Moment) (node : NodeRecord) (input : Input) (out : Out NodeRecord) (from shard epoch slot : ℕ) (txn : TxId) (case : Case) (part : Part) (view : Membership)
@@ -133,7 +132,6 @@ acknowledges_ready : (tests : Tests) (setup : Deployment) (t u : Moment) (node :
 acknowledges_ready tests setup t u node input out from shard epoch slot txn case part view a e o at voted = record {
   fits = acknowledged_case tests setup t u node input out from shard txn case part view a o;
   holds = acknowledges_hold tests setup t u node input out from shard epoch slot txn case part view a e o at voted;
-  shards = case_shards tests setup t u node input out txn case (acknowledged part from) a o.opened;
 }
 
 pub acting_agrees : (tests : Tests) (version : ℕ) (setup : Deployment) (t u : Moment) (node : NodeRecord) (input : Input) (out : Out NodeRecord) → Acting tests setup t u node input out → Effect tests version node input out → SendsAgree u out.sends

@@ -26,29 +26,7 @@ use Rattle.protocol_laws.proofs.TransactionsActing.{Acting}
 use Rattle.protocol_laws.proofs.TransactionsRows.{RowCame, row_came}
 use Rattle.protocol_laws.proofs.TransactionsRows.RowCame.{WasThere, WasMarked, WasAppended, WasAccepted, WasWhole, WasInPiece, WasKept}
 use Rattle.protocol_laws.proofs.SameTxn.{same_txn-eq}
-
--- where numbers ascend, the first is below each of the others
-first_below : (x : Row) (xs : List Row) (y : Row) → ascends (map (λ r. r.entry.slot) (x ∷ xs)) ≡ true → StandsIn y xs → x.entry.slot < y.entry.slot
-first_below x [] y h s = absurd s
-first_below x (z ∷ zs) y h (inl e) =
-    let l : x.entry.slot < z.entry.slot = ltb-true x.entry.slot z.entry.slot (and-left (nat_lt x.entry.slot z.entry.slot) (ascends (map (λ r. r.entry.slot) (z ∷ zs))) h) in
-    subst (λ (r : Row). x.entry.slot < r.entry.slot) (sym e) l
-first_below x (z ∷ zs) y h (inr s) =
-    let l : x.entry.slot < z.entry.slot = ltb-true x.entry.slot z.entry.slot (and-left (nat_lt x.entry.slot z.entry.slot) (ascends (map (λ r. r.entry.slot) (z ∷ zs))) h) in
-    let m : z.entry.slot < y.entry.slot = first_below z zs y (and-right (nat_lt x.entry.slot z.entry.slot) (ascends (map (λ r. r.entry.slot) (z ∷ zs))) h) s in
-    omega (arith, l, m)
-
-rest_ascends : (x : Row) (xs : List Row) → ascends (map (λ r. r.entry.slot) (x ∷ xs)) ≡ true → ascends (map (λ r. r.entry.slot) xs) ≡ true
-rest_ascends x [] h = refl
-rest_ascends x (z ∷ zs) h = and-right (nat_lt x.entry.slot z.entry.slot) (ascends (map (λ r. r.entry.slot) (z ∷ zs))) h
-
--- two rows of one slot are one
-one_row : (rows : List Row) (x y : Row) → ascends (map (λ r. r.entry.slot) rows) ≡ true → StandsIn x rows → StandsIn y rows → x.entry.slot ≡ y.entry.slot → x ≡ y
-one_row [] x y h s r e = absurd s
-one_row (z ∷ zs) x y h (inl p) (inl q) e = p ∙ sym q
-one_row (z ∷ zs) x y h (inl p) (inr r) e = let l : z.entry.slot < y.entry.slot = first_below z zs y h r in let m : x.entry.slot ≡ z.entry.slot = ap (λ (w : Row). w.entry.slot) p in absurd (omega (arith, l, m, e))
-one_row (z ∷ zs) x y h (inr s) (inl q) e = let l : z.entry.slot < x.entry.slot = first_below z zs x h s in let m : y.entry.slot ≡ z.entry.slot = ap (λ (w : Row). w.entry.slot) q in absurd (omega (arith, l, m, e))
-one_row (z ∷ zs) x y h (inr s) (inr r) e = one_row zs x y (rest_ascends z zs h) s r e
+use Rattle.protocol_laws.proofs.Ascending.{ascending-one}
 
 -- the row of a slot that holds a transaction is of it
 at_slot_is : (rows : List Row) (slot : ℕ) (txn : TxId) (old : Row) → AreRows rows → has_at rows slot txn ≡ true → StandsIn old rows → old.entry.slot ≡ slot → old.entry.txn ≡ txn
@@ -58,7 +36,7 @@ at_slot_is rows slot txn old are has s at = go (row_at rows slot) refl has
     go None e h = absurd (cc h)
     go (Some r) e h =
         let f : StandsIn r rows × ((r.entry.slot == slot) ≡ true) = find-StandsIn (λ (q : Row). q.entry.slot == slot) rows r e in
-        let same : old ≡ r = one_row rows old r are.slots_ascend s f.0 (at ∙ sym (eqb-true r.entry.slot slot f.1)) in
+        let same : old ≡ r = ascending-one (λ (q : Row). q.entry.slot) rows old r are.slots_ascend s f.0 (at ∙ sym (eqb-true r.entry.slot slot f.1)) in
         ap (λ (x : Row). x.entry.txn) same ∙ same_txn-eq r.entry.txn txn h
 
 same_sense : (a b : Bool) → mark_of a ≡ mark_of b → a ≡ b

@@ -23,11 +23,12 @@ use Rattle.protocol.proofs.Lists.{all-StandsIn, StandsIn-append}
 use Rattle.protocol_laws.specs.Effect.{GoesOn}
 use Rattle.protocol_laws.specs.Effect.GoesOn.{Waiting, Decides}
 use Rattle.protocol_laws.proofs.Lasting.{accepted-on}
-use Rattle.protocol_laws.proofs.DecisionsAccepted.{IsAcceptedPart, complete_part, PartsHold}
+use Rattle.protocol_laws.proofs.DecisionsAccepted.{IsAcceptedPart, complete_part}
 use Rattle.protocol_laws.proofs.TransactionsActing.{Acting}
 use Rattle.protocol_laws.proofs.Standing.{IsMapped, map-StandsIn, IsPiece, flat_map-StandsIn}
 use Rattle.protocol_laws.proofs.TransactionsPlaces.{view_is, IsView}
 use Rattle.protocol_laws.proofs.TransferConfigs.{member_shard}
+use Rattle.protocol.specs.Invariant.Entries.{CaseHolds}
 
 -- what a message to a node tells of decisions agrees with decisions that were taken
 abbrev pub MessageAgrees : Moment → ℕ → Message → Type 0
@@ -63,14 +64,13 @@ agree_one t one k o (inr s) = absurd s
 -- A case that went on, whose parts hold: all that is known when it is complete.
 pub record IsReady (setup : Deployment) (t u : Moment) (node : NodeRecord) (txn : TxId) (case : Case) : Type 0 where
   pub fits : CaseFits setup.shards u txn case
-  pub holds : PartsHold t node.coordinator.views txn case
-  pub shards : map (λ p. p.shard) case.parts ≡ case.shards
+  pub holds : CaseHolds t node.coordinator.views txn case
 
 -- each part of a complete case has its accepted entry
 ready_part : (tests : Tests) (setup : Deployment) (t u : Moment) (node : NodeRecord) (input : Input) (out : Out NodeRecord) (txn : TxId) (case : Case) (p : Part) → Acting tests setup t u node input out → IsReady setup t u node txn case
     → is_complete node.coordinator.views case ≡ true → StandsIn p case.parts → IsAcceptedPart t node.coordinator.views txn p
 ready_part tests setup t u node input out txn case p a r complete s =
-    complete_part tests setup t node.coordinator.views txn p a.before (λ v e. (view_is setup t node p.shard v a.before.configurations a.is e).stored) (r.holds p s)
+    complete_part tests setup t node.coordinator.views txn p a.before (λ v e. (view_is setup t node p.shard v a.before.configurations a.is e).stored) (r.holds.parts p s)
     (all-StandsIn (λ (q : Part). is_complete_by q.entry q.acks (view_of node.coordinator.views q.shard)) case.parts p complete s)
 
 pub ready_decided : (tests : Tests) (setup : Deployment) (t u : Moment) (node : NodeRecord) (input : Input) (out : Out NodeRecord) (txn : TxId) (case : Case) → Acting tests setup t u node input out → IsReady setup t u node txn case
@@ -79,7 +79,7 @@ ready_decided tests setup t u node input out txn case a r complete = record {
   payload = r.fits.payload;
   begun = r.fits.begun;
   parts = case.parts;
-  shards = r.shards ∙ r.fits.shards;
+  shards = r.holds.shards ∙ r.fits.shards;
   accepted = λ p s. (
       let q : IsAcceptedPart t node.coordinator.views txn p = ready_part tests setup t u node input out txn case p a r complete s in
       let v : IsView t p.shard q.view = view_is setup t node p.shard q.view a.before.configurations a.is q.sees in

@@ -26,12 +26,13 @@ use Rattle.protocol_laws.proofs.Lasting.{is_in-now, held-on, has_initial-on, lis
 use Rattle.protocol_laws.proofs.TransactionsLists.{lookup-StandsIn}
 use Rattle.protocol_laws.proofs.Standing.{StandsIn-left, StandsIn-right, filter-StandsIn}
 use Rattle.protocol_laws.proofs.Stored.{one_config, stored-some}
-use Rattle.protocol_laws.proofs.TransferConfigs.{member_shard}
+use Rattle.protocol_laws.proofs.TransferConfigs.{member_shard, follower_member}
 use Rattle.protocol_laws.proofs.TransferEvents.{Acting, effect_name}
 use Rattle.protocol_laws.proofs.TransferHeld.{leads_it}
 use Rattle.protocol_laws.proofs.TransferSending.{Sending, VotesNow, HasEntry}
 use Rattle.protocol_laws.proofs.TransferSending.Sending.{Says, Answers, AsksVoted, AsksAgain, Holds}
 use Rattle.protocol_laws.proofs.TransferSent.{sent_how, SentNow}
+use Rattle.protocol_laws.proofs.TransactionsPlaces.{IsView, view_is}
 
 pub listed_at-on : (t u : Moment) (shard epoch : ℕ) (x : Preparation) → Onward t u → ListedAt t shard epoch x → ListedAt u shard epoch x
 listed_at-on t u shard epoch x onward l = record { config = l.config; stored = onward.stored l.config l.stored; of_shard = l.of_shard; of_epoch = l.of_epoch; listed = listed-on t u l.config x onward l.listed }
@@ -39,24 +40,10 @@ listed_at-on t u shard epoch x onward l = record { config = l.config; stored = o
 pub held_at-on : (t u : Moment) (epoch name slot : ℕ) (txn : TxId) → Onward t u → HeldAt t epoch name slot txn → HeldAt u epoch name slot txn
 held_at-on t u epoch name slot txn onward k = record { entry = k.entry; held = held-on t u epoch name k.entry onward k.held; at_slot = k.at_slot; of_txn = k.of_txn }
 
--- a node's view of a shard is a stored configuration of the shard
-pub view_stored : (setup : Deployment) (t : Moment) → ConfigurationsHold setup t → (node : NodeRecord) (shard : ℕ) (view : Membership) → IsNode t node → view_of node.coordinator.views shard ≡ Some view → IsStored t view × (view.shard ≡ shard)
-view_stored setup t ct node shard view n e =
-    let f = find-StandsIn (λ (v : Membership). v.shard == shard) node.coordinator.views view e in (
-      ct.in_nodes node view n
-          (StandsIn-left (node.coordinator.views ++ role_configs node.role ++ probed_configs node.prober) (gathered_configs node.gathering) view
-          (StandsIn-left (node.coordinator.views ++ role_configs node.role) (probed_configs node.prober) view (StandsIn-left node.coordinator.views (role_configs node.role) view f.0))),
-      eqb-true view.shard shard f.1,
-    )
-
 -- what holds of a voted part, at its view
 pub voted_part : (t : Moment) (txn : TxId) (views : List Membership) (part : Part) (view : Membership) (entry : Preparation) → PartHolds t txn (view_of views part.shard) part.entry part.acks → view_of views part.shard ≡ Some view → part.entry ≡ Some entry
     → PartHolds t txn (Some view) (Some entry) part.acks
 voted_part t txn views part view entry p v e = subst₂ (λ (a : Option Membership) (b : Option Preparation). PartHolds t txn a b part.acks) v e p
-
--- a follower is a member
-follower-member : (c : Membership) (name : ℕ) → StandsIn name (followers c) → StandsIn name c.members
-follower-member c name s = (filter-StandsIn (λ (m : ℕ). not (m == c.leader)) c.members name s).0
 
 record AnswersBy (node : NodeRecord) (new : NodeRecord) (shard epoch : ℕ) (x : Preparation) : Type 0 where
   of_shard : node.shard ≡ shard
@@ -144,11 +131,11 @@ module _ (tests : Tests) (setup : Deployment) (t : Moment) (event : Event) (h : 
   pub asked_listed : (a : Acting tests setup t event h) (view : Membership) (x : Preparation) → VotesNow a.node a.input view x ⊎ Again a.node view x → IsStored t view × Listed t view x
   asked_listed a view x (inr g) =
       let c : CaseHolds t a.node.coordinator.views g.txn g.case = turn.before.entries.cases a.node g.txn g.case a.is g.opened in
-      ((view_stored setup t turn.before.configurations a.node g.part.shard view a.is g.sees).0, (voted_part t g.txn a.node.coordinator.views g.part view x (c.parts g.part g.has) g.sees g.entry).0)
+      ((view_is setup t a.node g.part.shard view turn.before.configurations a.is g.sees).stored, (voted_part t g.txn a.node.coordinator.views g.part view x (c.parts g.part g.has) g.sees g.entry).0)
   asked_listed a view x (inl v) = by v.part.entry refl
     where
-      stored : IsStored t view × (view.shard ≡ v.shard)
-      stored = view_stored setup t turn.before.configurations a.node v.shard view a.is v.is_open.sees
+      seen : IsView t v.shard view
+      seen = view_is setup t a.node v.shard view turn.before.configurations a.is v.is_open.sees
 
       found : StandsIn v.part v.case.parts × ((v.part.shard == v.shard) ≡ true)
       found = find-StandsIn (λ (p : Part). p.shard == v.shard) v.case.parts v.part v.is_open.has
@@ -157,14 +144,14 @@ module _ (tests : Tests) (setup : Deployment) (t : Moment) (event : Event) (h : 
       by None e =
           let sent : WasSent t v.from a.node.name (PrepareAck v.shard view.epoch v.answered) = delivered setup t a.node.name event a.input a.comes turn.fits v.from (PrepareAck v.shard view.epoch v.answered) v.delivers in
           let l : ListedAt t v.shard view.epoch v.answered = turn.before.entries.answered v.from a.node.name v.shard view.epoch v.answered sent in
-          let same : l.config ≡ view = one_config setup t l.config view turn.before.configurations l.stored stored.0 (l.of_shard ∙ sym stored.1) l.of_epoch in
+          let same : l.config ≡ view = one_config setup t l.config view turn.before.configurations l.stored seen.stored (l.of_shard ∙ sym seen.of_shard) l.of_epoch in
           let is : v.answered ≡ x = sym (v.is ∙ ap (λ (o : Option Preparation). first_entry o v.answered) e) in
-          (stored.0, subst (λ (y : Preparation). Listed t view y) is (subst (λ (d : Membership). Listed t d v.answered) same l.listed))
+          (seen.stored, subst (λ (y : Preparation). Listed t view y) is (subst (λ (d : Membership). Listed t d v.answered) same l.listed))
       by (Some kept) e =
           let c : CaseHolds t a.node.coordinator.views v.answered.txn v.case = turn.before.entries.cases a.node v.answered.txn v.case a.is (lookup-StandsIn v.answered.txn a.node.coordinator.cases v.case v.is_open.opened) in
           let sees : view_of a.node.coordinator.views v.part.shard ≡ Some view = ap (λ n. view_of a.node.coordinator.views n) (eqb-true v.part.shard v.shard found.1) ∙ v.is_open.sees in
           let is : kept ≡ x = sym (v.is ∙ ap (λ (o : Option Preparation). first_entry o v.answered) e) in
-          (stored.0, subst (λ (y : Preparation). Listed t view y) is (voted_part t v.answered.txn a.node.coordinator.views v.part view kept (c.parts v.part found.0) sees e).0)
+          (seen.stored, subst (λ (y : Preparation). Listed t view y) is (voted_part t v.answered.txn a.node.coordinator.views v.part view kept (c.parts v.part found.0) sees e).0)
 
   pub accepting_then : (from epoch : ℕ) (node : NodeRecord) (x : Preparation) → IsNode u node → WasSent u from node.name (Accept epoch x) → ListedAt u node.shard epoch x
   accepting_then from epoch node x n s = elim (sent_how tests setup t event h turn from node.name (Accept epoch x) (λ k. k) s) [
@@ -183,7 +170,7 @@ module _ (tests : Tests) (setup : Deployment) (t : Moment) (event : Event) (h : 
           record {
             config = b.view;
             stored = onward.stored b.view l.0;
-            of_shard = sym (member_shard setup u cu b.view node (onward.stored b.view l.0) n (follower-member b.view node.name b.follower));
+            of_shard = sym (member_shard setup u cu b.view node (onward.stored b.view l.0) n (follower_member b.view node.name b.follower));
             of_epoch = b.of_epoch;
             listed = listed-on t u b.view x onward l.1;
           }

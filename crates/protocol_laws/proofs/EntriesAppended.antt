@@ -73,8 +73,9 @@ module _ (tests : Tests) (setup : Deployment) (t : Moment) (event : Event) (h : 
       let slot : y.slot ≡ last_slot a.node.rows + 1 = ap (λ (p : Preparation). p.slot) a.entry in
       omega (arith, low, slot)
 
-  still_appended : (c : Membership) (x : Preparation) → Listed t c x → Appended tests t c x → Appended tests u c x
-  still_appended c x l a = record {
+  -- an entry that was appended still is, where the list of the configuration came from one in which it was appended
+  carried : (d c : Membership) (x : Preparation) → d.shard ≡ c.shard → (a : Appended tests t d x) → ((y : Preparation) → Listed u c y → y.slot < x.slot → StandsIn y (map (λ (r : Row). r.entry) a.node.rows)) → Appended tests u c x
+  carried d c x shard a above = record {
     later = h.after ∷ a.later;
     after = a.after;
     before = a.before;
@@ -82,7 +83,7 @@ module _ (tests : Tests) (setup : Deployment) (t : Moment) (event : Event) (h : 
     moments = ap (λ ws. h.after ∷ ws) a.moments;
     node = a.node;
     there = a.there;
-    shard = a.shard;
+    shard = a.shard ∙ shard;
     config = a.config;
     leads = a.leads;
     grown = a.grown;
@@ -90,10 +91,13 @@ module _ (tests : Tests) (setup : Deployment) (t : Moment) (event : Event) (h : 
     grown_name = a.grown_name;
     grown_rows = a.grown_rows;
     vote = a.vote;
-    above = λ y k lower. above y lower (how c y k);
+    above = above;
     new = a.new;
     marks = a.marks;
   }
+
+  still_appended : (c : Membership) (x : Preparation) → Listed t c x → Appended tests t c x → Appended tests u c x
+  still_appended c x l a = carried c c x refl a (λ y k lower. above y lower (how c y k))
     where
       above : (y : Preparation) → y.slot < x.slot → Listed t c y ⊎ LeadsHolding t u c y ⊎ Appending tests t u c y → StandsIn y (map (λ (r : Row). r.entry) a.node.rows)
       above y lower (inl k) = a.above y k lower
@@ -102,26 +106,7 @@ module _ (tests : Tests) (setup : Deployment) (t : Moment) (event : Event) (h : 
 
   -- a new leader's entries were appended in the list that they come from
   inherited : (c : Membership) (x : Preparation) (l : LeadsHolding t u c x) (f : LeadsFrom t u c l.leading) → Appended tests t f.earlier x → Appended tests u c x
-  inherited c x l f a = record {
-    later = h.after ∷ a.later;
-    after = a.after;
-    before = a.before;
-    earlier = a.earlier;
-    moments = ap (λ ws. h.after ∷ ws) a.moments;
-    node = a.node;
-    there = a.there;
-    shard = a.shard ∙ f.shard;
-    config = a.config;
-    leads = a.leads;
-    grown = a.grown;
-    grown_there = a.grown_there;
-    grown_name = a.grown_name;
-    grown_rows = a.grown_rows;
-    vote = a.vote;
-    above = λ y k lower. above y lower (how c y k);
-    new = a.new;
-    marks = a.marks;
-  }
+  inherited c x l f a = carried f.earlier c x f.shard a (λ y k lower. above y lower (how c y k))
     where
       above : (y : Preparation) → y.slot < x.slot → Listed t c y ⊎ LeadsHolding t u c y ⊎ Appending tests t u c y → StandsIn y (map (λ (r : Row). r.entry) a.node.rows)
       above y lower (inl k) = not_new c l.leading k.initial

@@ -24,6 +24,7 @@ use Rattle.protocol_laws.proofs.TransactionsLists.{set_value-StandsIn, remove_en
 use Rattle.protocol_laws.proofs.Standing.{map-StandsIn, IsMapped}
 use Rattle.protocol_laws.proofs.EntriesAnswered.{held_at-on}
 use Rattle.protocol_laws.proofs.EntriesKeyed.{keys, set-keys, remove-differ, added-differ}
+use Rattle.protocol_laws.proofs.CaseParts.{put-shards, put-StandsIn}
 
 -- all cases of a coordinator hold, and there is one of a transaction
 pub record CasesHold (t : Moment) (c : Coordinator) : Type 0 where
@@ -81,25 +82,6 @@ goes_on-holds t c txn case sends out h new (Decides d) = record {
   one = remove-differ (same_txn txn) c.cases h.one;
 }
 
--- a part of parts one of which was put: that one, or another
-put-shards : (part : Part) (parts : List Part) → map (λ (p : Part). p.shard) (put_part part parts) ≡ map (λ (p : Part). p.shard) parts
-put-shards part [] = refl
-put-shards part (p ∷ ps) = go (p.shard == part.shard) refl (put-shards part ps)
-  where
-    go : (b : Bool) → (p.shard == part.shard) ≡ b → map (λ (q : Part). q.shard) (put_part part ps) ≡ map (λ (q : Part). q.shard) ps → (cond b part p).shard ∷ map (λ (q : Part). q.shard) (put_part part ps) ≡ p.shard ∷ map (λ (q : Part). q.shard) ps
-    go true e ih = ap₂ (λ (k : ℕ) (ks : List ℕ). k ∷ ks) (sym (eqb-true p.shard part.shard e)) ih
-    go false e ih = ap (λ ks. p.shard ∷ ks) ih
-
-put-StandsIn : (part : Part) (parts : List Part) (p : Part) → StandsIn p (put_part part parts) → StandsIn p parts ⊎ (p ≡ part)
-put-StandsIn part parts p s = go (m.from.shard == part.shard) m.is
-  where
-    m : IsMapped (λ (q : Part). cond (q.shard == part.shard) part q) parts p
-    m = map-StandsIn (λ (q : Part). cond (q.shard == part.shard) part q) parts p s
-
-    go : (b : Bool) → p ≡ cond b part m.from → StandsIn p parts ⊎ (p ≡ part)
-    go true e = inr e
-    go false e = inl (subst (λ q. StandsIn q parts) (sym e) m.there)
-
 -- a case with one part changed
 pub with_part-holds : (t : Moment) (views : List Membership) (txn : TxId) (case : Case) (part : Part) → CaseHolds t views txn case → PartHolds t txn (view_of views part.shard) part.entry part.acks → CaseHolds t views txn (with_part case part)
 with_part-holds t views txn case part h new = record {
@@ -111,9 +93,9 @@ with_part-holds t views txn case part h new = record {
 }
 
 -- a part that took a vote
-pub voted-holds : (t : Moment) (txn : TxId) (view : Membership) (seen : Option Membership) (kept : Option Preparation) (acks : List ℕ) (entry : Preparation) → seen ≡ Some view → PartHolds t txn seen kept acks → Listed t view (first_entry kept entry) → entry.txn ≡ txn
+pub voted-holds : (t : Moment) (txn : TxId) (view : Membership) (seen : Option Membership) (kept : Option Preparation) (acks : List ℕ) (entry : Preparation) → seen ≡ Some view → PartHolds t txn seen kept acks → (kept ≡ None → Listed t view entry) → entry.txn ≡ txn
     → PartHolds t txn seen (Some (first_entry kept entry)) acks
-voted-holds t txn view seen None acks entry e p listed of = subst (λ (o : Option Membership). PartHolds t txn o (Some entry) acks) (sym e) (listed, of, λ name s. absurd (subst (λ xs. StandsIn name xs) p s))
+voted-holds t txn view seen None acks entry e p listed of = subst (λ (o : Option Membership). PartHolds t txn o (Some entry) acks) (sym e) (listed refl, of, λ name s. absurd (subst (λ xs. StandsIn name xs) p s))
 voted-holds t txn view seen (Some kept) acks entry e p listed of = p
 
 -- a part that took an acknowledgement

@@ -64,7 +64,7 @@ cases_by tests version t node input out (Votes from shard epoch entry case part 
     let listed : Listed t view (first_entry part.entry entry) = r.votes view (first_entry part.entry entry)
     (record { from = from; shard = shard; answered = entry; case = case; part = part; delivers = ap (λ n. Deliver from (PrepareAck shard n entry)) (sym at); is_open = opened; is = refl }) in
     goes_on-holds t node.coordinator entry.txn _ _ coordinator r.cases
-    (with_part-holds t node.coordinator.views entry.txn case (voted part entry) p.case_holds (voted-holds t entry.txn view (view_of node.coordinator.views part.shard) part.entry part.acks entry p.sees p.part_holds listed refl)) goes
+    (with_part-holds t node.coordinator.views entry.txn case (voted part entry) p.case_holds (voted-holds t entry.txn view (view_of node.coordinator.views part.shard) part.entry part.acks entry p.sees p.part_holds (λ none. subst (λ k. Listed t view (first_entry k entry)) none listed) refl)) goes
 cases_by tests version t node input out (Acknowledges from shard epoch slot txn case part view opened at follows votes coordinator goes) r =
     let p : PartOpen t node.coordinator txn case part view = part_open t node.coordinator txn shard case part view r.cases opened in
     let held : HeldAt t view.epoch from slot txn = subst (λ n. HeldAt t n from slot txn) (sym at) (r.acks from shard epoch slot txn refl) in

@@ -11,7 +11,7 @@ use Rattle.protocol.specs.Invariant.Logs.{entries_of}
 use Rattle.protocol.specs.Invariant.Time.{StandsIn}
 use Rattle.protocol.specs.Log.{row_of, slot_or_zero, last_slot}
 use Rattle.protocol_laws.proofs.Standing.{map-StandsIn, IsMapped, find-none}
-use Rattle.protocol_laws.proofs.TransferAscending.{ascending-one, txns-one}
+use Rattle.protocol_laws.proofs.Ascending.{ascending-one, txns-one}
 use Rattle.protocol_laws.proofs.SameTxn.{same_txn-self}
 
 abbrev slot_of : Row → ℕ

@@ -30,6 +30,7 @@ use Rattle.protocol_laws.proofs.Fronts.{IsFront, front-StandsIn}
 use Rattle.protocol_laws.proofs.OneEntry.{AreInOneList, common_list}
 use Rattle.protocol_laws.proofs.Standing.{IsMapped, map-StandsIn}
 use Rattle.protocol_laws.proofs.VotesSay.{commit-passes}
+use Rattle.tcs_terms.proofs.BoolLaws.{not_true}
 
 -- an entry that stands in the rows to which another one was appended, whose vote was to commit: its mark then, with the
 -- decision behind it, and what the vote said of it
@@ -59,10 +60,6 @@ pub record IsReady (t : Moment) (txn : TxId) (shard : ℕ) (entry : Preparation)
   pub accepted : IsAcceptedIn t txn shard entry
   pub vote : entry.vote ≡ votes.Commit
   pub has : entry.payload ≡ Some payload
-
-not_true : (b : Bool) → not b ≡ false → b ≡ true
-not_true true h = refl
-not_true false h = absurd (cc h)
 
 -- the earlier one stood below: it had passed, since its abort was not decided
 below_passes : (tests : Tests) (setup : Deployment) (t : Moment) (earlier : List Note) (txn other : TxId) (decision : Decision) (x : Preparation) (old new : Accesses) → IsLawful tests

@@ -23,21 +23,21 @@ pub payloads-first : (h : List Note) (t : TxId) (ts : List TxId) (p : Accesses) 
 payloads-first h t ts p e = ap (λ o. cons_option o (payloads_of h ts)) e
 
 -- the transaction of a payload
-pub record IsOf (h : List Note) (ts : List TxId) (p : Accesses) : Type 0 where
+pub record IsPayloadOf (h : List Note) (ts : List TxId) (p : Accesses) : Type 0 where
   pub txn : TxId
   pub before : List TxId
   pub after : List TxId
   pub split : ts ≡ before ++ (txn ∷ after)
   pub payload : payload_in h txn ≡ Some p
 
-pub payloads-IsOf : (h : List Note) (ts : List TxId) (p : Accesses) → StandsIn p (payloads_of h ts) → IsOf h ts p
-payloads-IsOf h [] p s = absurd s
-payloads-IsOf h (t ∷ ts) p s = go (payload_in h t) refl s (λ r. payloads-IsOf h ts p r)
+pub payload-of : (h : List Note) (ts : List TxId) (p : Accesses) → StandsIn p (payloads_of h ts) → IsPayloadOf h ts p
+payload-of h [] p s = absurd s
+payload-of h (t ∷ ts) p s = go (payload_in h t) refl s (λ r. payload-of h ts p r)
   where
-    later : IsOf h ts p → IsOf h (t ∷ ts) p
+    later : IsPayloadOf h ts p → IsPayloadOf h (t ∷ ts) p
     later k = record { txn = k.txn; before = t ∷ k.before; after = k.after; split = ap (λ us. t ∷ us) k.split; payload = k.payload }
 
-    go : (o : Option Accesses) → payload_in h t ≡ o → StandsIn p (cons_option o (payloads_of h ts)) → (StandsIn p (payloads_of h ts) → IsOf h ts p) → IsOf h (t ∷ ts) p
+    go : (o : Option Accesses) → payload_in h t ≡ o → StandsIn p (cons_option o (payloads_of h ts)) → (StandsIn p (payloads_of h ts) → IsPayloadOf h ts p) → IsPayloadOf h (t ∷ ts) p
     go None e r ih = later (ih r)
     go (Some q) e (inl d) ih = record { txn = t; before = []; after = ts; split = refl; payload = e ∙ ap (λ x. Some x) (sym d) }
     go (Some q) e (inr r) ih = later (ih r)

@@ -60,7 +60,7 @@ pub mod ChoiceStage
 pub mod ChoiceKept
 pub mod TransferEvents
 pub mod TransferConfigs
-pub mod TransferAscending
+pub mod Ascending
 pub mod TransferPieces
 pub mod TransactionsLists
 pub mod TransactionsLast
@@ -124,3 +124,4 @@ pub mod CopyLaws
 pub mod ToldDecisions
 pub mod ToldAt
 pub mod SameTxn
+pub mod CaseParts

@@ -13,10 +13,7 @@ use Rattle.protocol.specs.Invariant.Time.{Moment, StandsIn, IsStored}
 use Rattle.protocol.specs.Invariant.Transfer.{IsHandedOn}
 use Rattle.protocol.proofs.Lists.{among-StandsIn}
 use Rattle.protocol_laws.proofs.Stored.{one_config}
-
--- the leader of a stored configuration is a member
-pub leader-member : (tests : Tests) (setup : Deployment) (t : Moment) (c : Membership) → InvariantHolds tests setup t → IsStored t c → StandsIn c.leader c.members
-leader-member tests setup t c i s = let m : HasMembers setup c = i.configurations.members c s in among-StandsIn c.members c.leader m.leader
+use Rattle.protocol_laws.proofs.TransferConfigs.{leads_member}
 
 -- who held something in an epoch reached it
 pub held-reached : (t : Moment) (epoch name : ℕ) (x : Preparation) → Held t epoch name x → Reached t epoch name
@@ -25,7 +22,7 @@ held-reached t epoch name x h = record { node = h.node; was = h.was; some = h.so
 -- an accepted entry is listed
 pub accepted-listed : (tests : Tests) (setup : Deployment) (t : Moment) (c : Membership) (x : Preparation) → InvariantHolds tests setup t → Accepted t c x → Listed t c x
 accepted-listed tests setup t c x i a =
-    let held : Held t c.epoch c.leader x = a.held c.leader (leader-member tests setup t c i a.stored) in
+    let held : Held t c.epoch c.leader x = a.held c.leader (leads_member setup t i.configurations c a.stored) in
     record { initial = i.transfer.led c a.stored (held-reached t c.epoch c.leader x held); held = held }
 
 -- an accepted entry is listed in every later configuration that has a list
@@ -34,7 +31,7 @@ accepted-later tests setup t c d x i a h s l =
     let on : IsHandedOn t c h.0 = i.transfer.handed_on d c h.0 h.1 a.stored s l in
     let initial : StandsIn x h.0 = on.inside x (a.held on.node.name on.member) in
     let reached : Reached t d.epoch d.leader = i.transfer.leader_reached d h in
-    record { initial = h; held = i.transfer.at_least d d.leader h.0 x h.1 (leader-member tests setup t d i h.1.stored) reached initial }
+    record { initial = h; held = i.transfer.at_least d d.leader h.0 x h.1 (leads_member setup t i.configurations d h.1.stored) reached initial }
 
 -- two entries that stand in the list of one configuration of the shard
 pub record AreInOneList (t : Moment) (shard : ℕ) (x y : Preparation) : Type 0 where

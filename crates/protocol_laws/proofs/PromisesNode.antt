@@ -147,7 +147,7 @@ rows_kept tests version node input out (Follows from config rows v m) b k x = b.
 rows_kept tests version node input out (Gathers from config number pieces rows gathering v m t g w) b k x = x
 rows_kept tests version node input out (FollowsPieces from config number pieces rows gathering v m t g w) b k x = subst (λ y. AreRows (rows_of y.kept)) (sym g) (gathered-rows node.gathering config pieces (record { number = number; rows = rows }) t (b.piece from number pieces config rows refl) k)
 
-gathered_from-is : (epoch : ℕ) (g : Option Gathering) (kept : Gathering) → gathered_from epoch g ≡ Some kept → g ≡ Some kept
+pub gathered_from-is : (epoch : ℕ) (g : Option Gathering) (kept : Gathering) → gathered_from epoch g ≡ Some kept → g ≡ Some kept
 gathered_from-is epoch None kept e = e
 gathered_from-is epoch (Some g) kept e = go (nat_lt g.config.epoch epoch) e
   where

@@ -11,8 +11,9 @@ use Rattle.tcs_terms.proofs.BoolLaws.{both, left_of, right_of, not_false}
 use Rattle.protocol.specs.Invariant.Logs.{entries_of}
 use Rattle.protocol.specs.Invariant.Time.{StandsIn}
 use Rattle.protocol.proofs.Lists.{StandsIn-append}
-use Rattle.protocol_laws.proofs.Standing.{StandsIn-left}
+use Rattle.protocol_laws.proofs.Standing.{StandsIn-left, IsMapped, map-StandsIn}
 use Rattle.protocol_laws.proofs.SameTxn.{same_txn-eq, same_txn-self}
+use Rattle.protocol_laws.proofs.Ascending.{tail-ascends, tail-above, txn_apart}
 
 -- a slot in its range
 abbrev pub slot_fits : Preparation → Bool
@@ -28,53 +29,23 @@ abbrev pub InOrder : List Preparation → Type 0
 InOrder [] = Unit {0}
 InOrder (x ∷ xs) = StandsBefore x xs × InOrder xs
 
-ascends-rest : (n : ℕ) (ns : List ℕ) → ascends (n ∷ ns) ≡ true → ascends ns ≡ true
-ascends-rest n [] h = refl
-ascends-rest n (k ∷ ns) h = right_of (nat_lt n k) (ascends (k ∷ ns)) h
-
-ascends-lower : (n : ℕ) (ns : List ℕ) → ascends (n ∷ ns) ≡ true → (m : ℕ) → StandsIn m ns → n < m
-ascends-lower n [] h m s = absurd s
-ascends-lower n (k ∷ ns) h m (inl e) = let l : n < k = ltb-true n k (left_of (nat_lt n k) (ascends (k ∷ ns)) h) in omega (arith, l, e)
-ascends-lower n (k ∷ ns) h m (inr s) =
-    let l : n < k = ltb-true n k (left_of (nat_lt n k) (ascends (k ∷ ns)) h) in
-    omega (arith, l, ascends-lower k ns (right_of (nat_lt n k) (ascends (k ∷ ns)) h) m s)
-
-differ-apart : (t : TxId) (ts : List TxId) → list_any (same_txn t) ts ≡ false → (u : TxId) → StandsIn u ts → t ≡ u → ⊥
-differ-apart t [] h u s e = absurd s
-differ-apart t (v ∷ vs) h u (inl q) e = let k : same_txn t v ≡ true = subst (λ w. same_txn t w ≡ true) (e ∙ q) (same_txn-self t) in go (same_txn t v) k h
-  where
-    go : (b : Bool) → b ≡ true → (b || list_any (same_txn t) vs) ≡ false → ⊥
-    go true k h = cc h
-    go false k h = cc k
-differ-apart t (v ∷ vs) h u (inr s) e = differ-apart t vs (go (same_txn t v) h) u s e
-  where
-    go : (b : Bool) → (b || list_any (same_txn t) vs) ≡ false → list_any (same_txn t) vs ≡ false
-    go true h = absurd (cc h)
-    go false h = h
-
-pub key-StandsIn : {K : Type 0} (key : Preparation → K) (rows : List Row) (y : Preparation) → StandsIn y (entries_of rows) → StandsIn (key y) (map (λ r. key r.entry) rows)
-key-StandsIn key [] y s = absurd s
-key-StandsIn key (r ∷ rs) y (inl e) = inl (ap key e)
-key-StandsIn key (r ∷ rs) y (inr s) = inr (key-StandsIn key rs y s)
-
 -- the entries of rows that may stand in a log are in order
 pub rows-in_order : (rows : List Row) → AreRows rows → InOrder (entries_of rows)
 rows-in_order [] a = tt
-rows-in_order (r ∷ rs) a =
-    let slots : List ℕ = map (λ q. q.entry.slot) rs in
-    let txns : List TxId = map (λ q. q.entry.txn) rs in
-    let differ : list_any (same_txn r.entry.txn) txns ≡ false = not_false (list_any (same_txn r.entry.txn) txns) (left_of (not (list_any (same_txn r.entry.txn) txns)) (txns_differ txns) a.txns_differ) in (
-      record {
-        fits = left_of (slot_fits r.entry) (list_all (λ q. slot_fits q.entry) rs) a.slots;
-        lower = λ y s. ascends-lower r.entry.slot slots a.slots_ascend y.slot (key-StandsIn (λ x. x.slot) rs y s);
-        apart = λ y s. differ-apart r.entry.txn txns differ y.txn (key-StandsIn (λ x. x.txn) rs y s);
-      },
-      rows-in_order rs (record {
-        slots_ascend = ascends-rest r.entry.slot slots a.slots_ascend;
-        slots = right_of (slot_fits r.entry) (list_all (λ q. slot_fits q.entry) rs) a.slots;
-        txns_differ = right_of (not (list_any (same_txn r.entry.txn) txns)) (txns_differ txns) a.txns_differ;
-      }),
-    )
+rows-in_order (r ∷ rs) a = (
+  record {
+    fits = left_of (slot_fits r.entry) (list_all (λ q. slot_fits q.entry) rs) a.slots;
+    lower = λ y s. (let m : IsMapped (λ (q : Row). q.entry) rs y = map-StandsIn (λ (q : Row). q.entry) rs y s in
+        subst (λ (z : Preparation). r.entry.slot < z.slot) (sym m.is) (tail-above (λ (q : Row). q.entry.slot) r rs m.from a.slots_ascend m.there));
+    apart = λ y s e. (let m : IsMapped (λ (q : Row). q.entry) rs y = map-StandsIn (λ (q : Row). q.entry) rs y s in
+        txn_apart (λ (q : Row). q.entry.txn) r rs m.from a.txns_differ m.there (sym (e ∙ ap (λ (z : Preparation). z.txn) m.is)));
+  },
+  rows-in_order rs (record {
+    slots_ascend = tail-ascends (λ (q : Row). q.entry.slot) r rs a.slots_ascend;
+    slots = right_of (slot_fits r.entry) (list_all (λ q. slot_fits q.entry) rs) a.slots;
+    txns_differ = right_of (not (list_any (same_txn r.entry.txn) (map (λ q. q.entry.txn) rs))) (txns_differ (map (λ q. q.entry.txn) rs)) a.txns_differ;
+  }),
+)
 
 apart-none : (t : TxId) (rows : List Row) → ((y : Preparation) → StandsIn y (entries_of rows) → t ≡ y.txn → ⊥) → list_any (same_txn t) (map (λ q. q.entry.txn) rows) ≡ false
 apart-none t [] h = refl

@@ -1,5 +1,5 @@
 -- The rows that a node gathers may stand in a log, piece by piece.
-use Rattle.std.proofs.Common.{◌≡◌, ℕ, ◌<◌, Bool, true, false, cond, List, [], ◌∷◌, ◌++◌, map, filter, take, drop, Option, Some, None, ◌==◌, ◌&&◌, ◌||◌, ◌⊎◌, inl, inr, sym, subst, refl, arith, eqb-true, ltb-true, nat_le, nat_lt, ◌*◌, ◌-◌}
+use Rattle.std.proofs.Common.{◌≡◌, ℕ, ◌<◌, Bool, true, false, cond, List, [], ◌∷◌, ◌++◌, map, filter, take, drop, Option, Some, None, ◌==◌, ◌&&◌, ◌||◌, ◌⊎◌, inl, inr, sym, subst, refl, arith, eqb-true, ltb-true, nat_le, nat_lt, ◌*◌, ◌-◌, ap}
 use Rattle.std.proofs.lemmas.List.{map-append, append-nil, take-append-drop}
 use Rattle.std.proofs.lemmas.Grind.{flat_map-append}
 use Rattle.std.specs.Cmp.Lexicographic.{pointwise}
@@ -18,6 +18,8 @@ use Rattle.protocol.specs.Invariant.Time.{StandsIn}
 use Rattle.protocol.proofs.Lists.{StandsIn-append, all-StandsIn}
 use Rattle.protocol_laws.proofs.PromisesOrder.{slot_fits, InOrder, rows-in_order, in_order-rows, in_order-left, in_order-right}
 use Rattle.protocol_laws.proofs.Standing.{StandsIn-left, StandsIn-right, all-from}
+use Rattle.std.proofs.lemmas.Bool.{false_from_ne_true}
+use Rattle.protocol_laws.proofs.TransferPieces.{same_config-is}
 
 -- a part of rows that may stand in a log may stand in one
 pub piece-rows : (rows : List Row) (number : ℕ) → AreRows rows → AreRows (piece_of rows number)
@@ -67,20 +69,8 @@ whole-rows kept piece a b w =
       txns_differ = right_of (ascends (map (λ r. r.entry.slot) rows)) (txns_differ (map (λ r. r.entry.txn) rows)) w;
     }
 
--- configurations that are one are of one epoch
-same_config-epoch : (a b : Membership) → same_config a b ≡ true → a.epoch ≡ b.epoch
-same_config-epoch a b h =
-    let first : Bool = (a.shard == b.shard) && (a.epoch == b.epoch) in
-    let second : Bool = first && pointwise nat_eq a.members b.members in
-    let third : Bool = second && (a.leader == b.leader) in
-    eqb-true a.epoch b.epoch (right_of (a.shard == b.shard) (a.epoch == b.epoch) (left_of first (pointwise nat_eq a.members b.members) (left_of second (a.leader == b.leader) (left_of third (a.by == b.by) h))))
-
 not-below : (a b : ℕ) → a ≡ b → nat_lt a b ≡ false
-not-below a b e = go (nat_lt a b) refl
-  where
-    go : (v : Bool) → nat_lt a b ≡ v → v ≡ false
-    go false q = refl
-    go true q = absurd (let l : a < b = ltb-true a b q in omega (arith, l, e))
+not-below a b e = false_from_ne_true (nat_lt a b) (λ q. let l : a < b = ltb-true a b q in omega (arith, l, e))
 
 -- what is gathered after a piece that may be taken
 pub gathered-rows : (g : Option Gathering) (config : Membership) (pieces : ℕ) (piece : Piece) → takes_piece g config pieces piece ≡ true → AreRows piece.rows
@@ -98,6 +88,6 @@ gathered-rows (Some g) config pieces piece t a h = go (is_gathering_of g config)
 
     go : (b : Bool) → is_gathering_of g config ≡ b → (nat_lt g.config.epoch config.epoch || (b && fits g pieces piece)) ≡ true → AreRows (rows_of (with_one_more (cond b g (begun config pieces)) piece).kept)
     go true e k =
-        let f : fits g pieces piece ≡ true = take (nat_lt g.config.epoch config.epoch) (not-below g.config.epoch config.epoch (same_config-epoch g.config config e)) k in
+        let f : fits g pieces piece ≡ true = take (nat_lt g.config.epoch config.epoch) (not-below g.config.epoch config.epoch (ap (λ (c : Membership). c.epoch) (same_config-is g.config config e))) k in
         into (is_kept g.kept piece.number) refl (right_of ((g.pieces == pieces) && nat_le 1 piece.number && nat_le piece.number pieces) (is_kept g.kept piece.number || are_whole (rows_of (with_piece g.kept piece))) f)
     go false e k = alone-rows config pieces piece a

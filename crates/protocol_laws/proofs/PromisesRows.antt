@@ -13,7 +13,7 @@ use Rattle.protocol.specs.Log.{row_of, row_at, last_slot, slot_or_zero, is_full,
 use Rattle.protocol.specs.Invariant.Logs.{entries_of}
 use Rattle.protocol.specs.Invariant.Time.{StandsIn}
 use Rattle.protocol_laws.proofs.PromisesOrder.{slot_fits, InOrder, rows-in_order, in_order-rows, in_order-join, in_order-filter, filtered-StandsIn, in_order-apart}
-use Rattle.protocol_laws.proofs.Standing.{IsMapped, map-StandsIn, find-none}
+use Rattle.protocol_laws.proofs.Standing.{IsMapped, map-StandsIn, find-none, is-none}
 use Rattle.protocol_laws.proofs.SameTxn.{same_txn-self}
 
 -- a transaction without a row is that of no entry
@@ -102,10 +102,6 @@ put-rows rows x a n f =
         let k : x.slot < z.slot = above x.slot rows z r in
         let m : y.slot < z.slot = omega (arith, l, k) in
         (m, in_order-apart (entries_of rows) y z o (filtered-StandsIn (λ r. nat_lt r.entry.slot x.slot) rows y s) (filtered-StandsIn (λ r. nat_lt x.slot r.entry.slot) rows z r) m)
-
-is-none : {X : Type 0} (o : Option X) → is_some o ≡ false → o ≡ None
-is-none None h = refl
-is-none (Some x) h = absurd (cc h)
 
 -- what a follower's rows come to
 pub accepted-rows : (rows : List Row) (x : Preparation) → AreRows rows → is_taken rows x ≡ false → slot_fits x ≡ true → AreRows (accepted rows x)

@@ -3,6 +3,7 @@ use Rattle.std.proofs.Common.{◌≡◌, Bool, true, false, ◌==◌, refl, eqb-
 use Rattle.tcs_terms.specs.declared.ids.TxId.{TxId}
 use Rattle.tcs_terms.specs.Logs.{same_txn}
 use Rattle.tcs_terms.proofs.BoolLaws.{both, left_of, right_of}
+use Rattle.std.proofs.lemmas.Bool.{false_from_ne_true}
 
 pub same_txn-eq : (a b : TxId) → same_txn a b ≡ true → a ≡ b
 same_txn-eq a b h =
@@ -13,9 +14,5 @@ same_txn-eq a b h =
 pub same_txn-self : (a : TxId) → same_txn a a ≡ true
 same_txn-self a = both (a.home == a.home) (a.seq == a.seq) (eq-eqb a.home a.home refl) (eq-eqb a.seq a.seq refl)
 
-pub same_txn-differ : (t txn : TxId) → (t ≡ txn → ⊥) → same_txn t txn ≡ false
-same_txn-differ t txn n = go (same_txn t txn) refl
-  where
-    go : (b : Bool) → same_txn t txn ≡ b → b ≡ false
-    go true e = absurd (n (same_txn-eq t txn e))
-    go false e = refl
+pub same_txn-differ : (a b : TxId) → (a ≡ b → ⊥) → same_txn a b ≡ false
+same_txn-differ a b n = false_from_ne_true (same_txn a b) (λ e. n (same_txn-eq a b e))

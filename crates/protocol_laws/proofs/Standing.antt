@@ -1,5 +1,5 @@
 -- What stands in a list that is joined, mapped, filtered, cut or searched, and what passes a test of its elements.
-use Rattle.std.proofs.Common.{◌≡◌, ℕ, zero, suc, ◌+◌, ◌<◌, ◌≤◌, Bool, true, false, cond, ◌==◌, ◌&&◌, ◌||◌, List, [], ◌∷◌, ◌++◌, map, flat_map, filter, find, take, drop, slice_get, Option, Some, None, ◌⊎◌, inl, inr, sym, ap, subst, refl, arith, eq-eqb}
+use Rattle.std.proofs.Common.{◌≡◌, ℕ, zero, suc, ◌+◌, ◌<◌, ◌≤◌, Bool, true, false, cond, ◌==◌, ◌&&◌, ◌||◌, List, [], ◌∷◌, ◌++◌, map, flat_map, filter, find, take, drop, slice_get, Option, Some, None, ◌⊎◌, inl, inr, sym, ap, subst, refl, arith, eq-eqb, is_some}
 use Rattle.std.proofs.Math.Nat.{eq-or-lt_of_le}
 use Rattle.std.specs.List.{list_all, list_any, last_or, range_with_len}
 use Rattle.std.proofs.lemmas.Bool.{and_from, or_left, or_right}
@@ -53,6 +53,11 @@ filter-StandsIn p (z ∷ zs) x s = go (p z) refl s (filter-StandsIn p zs x)
     go true e (inl q) ih = (inl q, cc (ap p q, e))
     go true e (inr q) ih = (inr (ih q).0, (ih q).1)
     go false e q ih = (inr (ih q).0, (ih q).1)
+
+-- an answer that is not some is none
+pub is-none : {X : Type 0} (o : Option X) → is_some o ≡ false → o ≡ None
+is-none None h = refl
+is-none (Some x) h = absurd (cc h)
 
 -- where nothing passes, what stands in the list doesn't
 pub find-none : {X : Type 0} (p : X → Bool) (xs : List X) (x : X) → find p xs ≡ None → StandsIn x xs → p x ≡ false

@@ -33,6 +33,7 @@ use Rattle.protocol_laws.proofs.Standing.{IsMapped, map-StandsIn}
 use Rattle.protocol_laws.proofs.TransactionsLists.{lookup-StandsIn, set_value-StandsIn, remove_entry-StandsIn}
 use Rattle.protocol_laws.proofs.TransactionsPlaces.{views_length}
 use Rattle.protocol_laws.proofs.SameTxn.{same_txn-eq}
+use Rattle.protocol_laws.proofs.CaseParts.{put-StandsIn, IsPartOf, part_is}
 
 -- all cases of a coordinator fit
 abbrev pub CasesFit : ℕ → Moment → Coordinator → Type 0
@@ -42,34 +43,13 @@ CasesFit n t c = (txn : TxId) (case : Case) → StandsIn (txn, case) c.cases →
 abbrev pub PartFits : ℕ → Moment → Part → Type 0
 PartFits n t p = (entry : Preparation) → p.entry ≡ Some entry → EntryFits n t p.shard entry
 
--- a part among those of which one was put in its place
-pub put_part_came : (part : Part) (parts : List Part) (p : Part) → StandsIn p (put_part part parts) → StandsIn p parts ⊎ (p ≡ part)
-put_part_came part parts p s = go (map-StandsIn (λ (q : Part). cond (q.shard == part.shard) part q) parts p s)
-  where
-    at : (old : Part) (b : Bool) → StandsIn old parts → p ≡ cond b part old → StandsIn p parts ⊎ (p ≡ part)
-    at old true k q = inr q
-    at old false k q = inl (subst (λ x. StandsIn x parts) (sym q) k)
-
-    go : IsMapped (λ (q : Part). cond (q.shard == part.shard) part q) parts p → StandsIn p parts ⊎ (p ≡ part)
-    go i = at i.from (i.from.shard == part.shard) i.there i.is
-
--- the part of a shard is among the parts, and is of that shard
-pub record IsPartOf (parts : List Part) (shard : ℕ) (part : Part) : Type 0 where
-  pub among : StandsIn part parts
-  pub of_shard : part.shard ≡ shard
-
-pub part_is : (parts : List Part) (shard : ℕ) (part : Part) → part_of parts shard ≡ Some part → IsPartOf parts shard part
-part_is parts shard part e =
-    let f : StandsIn part parts × ((part.shard == shard) ≡ true) = find-StandsIn (λ (p : Part). p.shard == shard) parts part e in
-    record { among = f.0; of_shard = eqb-true part.shard shard f.1 }
-
 case_with_part : (n : ℕ) (t : Moment) (txn : TxId) (case : Case) (part : Part) → CaseFits n t txn case → PartFits n t part → CaseFits n t txn (with_part case part)
 case_with_part n t txn case part f k = record {
   payload = f.payload;
   begun = f.begun;
   shards = f.shards;
   whole = f.whole;
-  voted = λ p entry s e. elim (put_part_came part case.parts p s) [
+  voted = λ p entry s e. elim (put-StandsIn part case.parts p s) [
     | inl r ↦ f.voted p entry r e
     | inr q ↦ subst (λ (x : Part). EntryFits n t x.shard entry) (sym q) (k entry (sym (ap (λ (x : Part). x.entry) q) ∙ e))
   ];

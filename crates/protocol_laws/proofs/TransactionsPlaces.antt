@@ -9,17 +9,15 @@ use Rattle.protocol.specs.Invariant.Configurations.{ConfigurationsHold, role_con
 use Rattle.protocol.specs.Invariant.Time.{Moment, StandsIn, IsNode, IsStored}
 use Rattle.protocol.proofs.Lists.{find-StandsIn}
 use Rattle.protocol_laws.proofs.Standing.{StandsIn-left}
+use Rattle.protocol_laws.proofs.ConfigurationsHad.{had}
 
 -- the view of a shard is a stored configuration of it
 pub record IsView (t : Moment) (shard : ℕ) (v : Membership) : Type 0 where
   pub stored : IsStored t v
   pub of_shard : v.shard ≡ shard
 
-pub view_stored : (setup : Deployment) (t : Moment) (node : NodeRecord) (v : Membership) → ConfigurationsHold setup t → IsNode t node → StandsIn v node.coordinator.views → IsStored t v
-view_stored setup t node v k n s = k.in_nodes node v n (
-    let a : StandsIn v (node.coordinator.views ++ role_configs node.role) = StandsIn-left node.coordinator.views (role_configs node.role) v s in
-    let b : StandsIn v (node.coordinator.views ++ role_configs node.role ++ probed_configs node.prober) = StandsIn-left (node.coordinator.views ++ role_configs node.role) (probed_configs node.prober) v a in
-    StandsIn-left (node.coordinator.views ++ role_configs node.role ++ probed_configs node.prober) (gathered_configs node.gathering) v b)
+view_stored : (setup : Deployment) (t : Moment) (node : NodeRecord) (v : Membership) → ConfigurationsHold setup t → IsNode t node → StandsIn v node.coordinator.views → IsStored t v
+view_stored setup t node v k n s = k.in_nodes node v n ((had node v).views s)
 
 pub view_is : (setup : Deployment) (t : Moment) (node : NodeRecord) (shard : ℕ) (v : Membership) → ConfigurationsHold setup t → IsNode t node → view_of node.coordinator.views shard ≡ Some v → IsView t shard v
 view_is setup t node shard v k n e =

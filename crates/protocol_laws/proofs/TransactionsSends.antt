@@ -24,7 +24,7 @@ use Rattle.protocol.proofs.Lists.{find-StandsIn, StandsIn-append}
 use Rattle.protocol_laws.proofs.TransactionsCases.{CasesFit}
 use Rattle.protocol_laws.proofs.Standing.{IsMapped, map-StandsIn, filter-StandsIn, IsPiece, flat_map-StandsIn}
 use Rattle.protocol_laws.proofs.TransactionsPlaces.{IsView}
-use Rattle.protocol_laws.proofs.TransferConfigs.{member_shard, leads_member}
+use Rattle.protocol_laws.proofs.TransferConfigs.{member_shard, leads_member, follower_member}
 
 -- each message of these, to whichever node it goes, says what is so
 abbrev pub SendsFit : ℕ → Moment → List Outgoing → Type 0
@@ -60,9 +60,6 @@ prepare_sends setup t txn case (Some v) k f stored =
       of_shards = f.shards;
       is_part = whole_part setup.shards t v.shard txn f.payload case.payload f.whole;
     }))
-
-follower_member : (c : Membership) (node : ℕ) → StandsIn node (followers c) → StandsIn node c.members
-follower_member c node s = (filter-StandsIn (λ m. not (m == c.leader)) c.members node s).0
 
 -- ACCEPT of an entry of a shard to followers of a stored configuration of it
 pub accept_sends : (setup : Deployment) (t : Moment) (shard : ℕ) (entry : Preparation) (acks : List ℕ) (view : Option Membership) → ConfigurationsHold setup t → EntryFits setup.shards t shard entry

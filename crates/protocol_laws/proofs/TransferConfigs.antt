@@ -1,5 +1,5 @@
 -- Of stored configurations, the next one is of a later epoch; the leader is a member, and members are of the shard.
-use Rattle.std.proofs.Common.{◌≡◌, ℕ, zero, suc, ◌+◌, ◌-◌, ◌<◌, ◌≤◌, true, ◌==◌, List, [], ◌∷◌, filter, length, slice_index, Some, inl, inr, sym, ◌∙◌, ap, refl, arith, eqb-true, eq-eqb}
+use Rattle.std.proofs.Common.{◌≡◌, ℕ, zero, suc, ◌+◌, ◌-◌, ◌<◌, ◌≤◌, true, ◌==◌, List, [], ◌∷◌, filter, length, slice_index, Some, inl, inr, sym, ◌∙◌, ap, refl, arith, eqb-true, eq-eqb, not}
 use Rattle.tcs_terms.specs.Places.{Membership}
 use Rattle.tcs_terms.specs.Setups.{Deployment, has_node, is_node_of}
 use Rattle.tcs_terms.proofs.BoolLaws.{right_of}
@@ -7,10 +7,10 @@ use Rattle.protocol.specs.Invariant.Configurations.{ConfigurationsHold}
 use Rattle.protocol.specs.Invariant.Time.{Moment, StandsIn, IsNode, IsStored}
 use Rattle.protocol.specs.Records.{NodeRecord}
 use Rattle.protocol.specs.Service.{last_config, last_epoch}
-use Rattle.protocol.specs.Views.{epoch_of}
+use Rattle.protocol.specs.Views.{epoch_of, followers}
 use Rattle.protocol.proofs.Lists.{all-StandsIn, among-StandsIn}
 use Rattle.protocol_laws.proofs.Numbered.{AreNumbered, numbered-index, numbered-below}
-use Rattle.protocol_laws.proofs.Standing.{StandsIn-filter}
+use Rattle.protocol_laws.proofs.Standing.{StandsIn-filter, filter-StandsIn}
 use Rattle.protocol_laws.proofs.TransferEvents.{IsNext}
 use Rattle.protocol_laws.proofs.Stored.{stands_in_shard}
 
@@ -37,3 +37,7 @@ member_shard setup t h c node s n m =
 -- the leader is a member
 pub leads_member : (setup : Deployment) (t : Moment) → ConfigurationsHold setup t → (c : Membership) → IsStored t c → StandsIn c.leader c.members
 leads_member setup t h c s = among-StandsIn c.members c.leader (h.members c s).leader
+
+-- and so is each follower
+pub follower_member : (c : Membership) (node : ℕ) → StandsIn node (followers c) → StandsIn node c.members
+follower_member c node s = (filter-StandsIn (λ m. not (m == c.leader)) c.members node s).0

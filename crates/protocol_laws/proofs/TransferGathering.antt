@@ -25,6 +25,7 @@ use Rattle.protocol_laws.proofs.ConfigurationsInputs.{delivered}
 use Rattle.protocol_laws.proofs.Lasting.{sent-on}
 use Rattle.protocol_laws.proofs.TransferEvents.{node_back, Acting, effect_name}
 use Rattle.protocol_laws.proofs.TransferPieces.{pieces-all, with_piece-ascends, with_piece-StandsIn, same_config-is}
+use Rattle.protocol_laws.proofs.PromisesNode.{gathered_from-is}
 
 -- pieces of a configuration that were sent to a node, ascending
 pub record IsGathered (t : Moment) (name : ℕ) (config : Membership) (pieces : ℕ) (g : Gathering) : Type 0 where
@@ -112,18 +113,10 @@ pub record TookPiece (node : NodeRecord) (input : Input) (g : Gathering) : Type 
   pub takes : takes_piece node.gathering config pieces (record { number = number; rows = rows }) ≡ true
   pub is : g ≡ with_one_more (gathering_for node.gathering config pieces) (record { number = number; rows = rows })
 
-still : (epoch : ℕ) (o : Option Gathering) (g : Gathering) → gathered_from epoch o ≡ Some g → o ≡ Some g
-still epoch None g h = h
-still epoch (Some f) g h = go (nat_lt f.config.epoch epoch) h
-  where
-    go : (b : Bool) → cond b None (Some f) ≡ Some g → Some f ≡ Some g
-    go true k = absurd (cc k)
-    go false k = k
-
 gathering_by : (tests : Tests) (version : ℕ) (node : NodeRecord) (input : Input) (out : Out NodeRecord) → Effect tests version node input out → (g : Gathering) → out.kept.gathering ≡ Some g
     → (node.gathering ≡ Some g) ⊎ TookPiece node input g
-gathering_by tests version node input out (Promises from epoch l) g h = inl (still epoch node.gathering g h)
-gathering_by tests version node input out (Follows from config rows v m) g h = inl (still config.epoch node.gathering g h)
+gathering_by tests version node input out (Promises from epoch l) g h = inl (gathered_from-is epoch node.gathering g h)
+gathering_by tests version node input out (Follows from config rows v m) g h = inl (gathered_from-is config.epoch node.gathering g h)
 gathering_by tests version node input out (Gathers from config number pieces rows new v m takes e w) g h =
     inr (record { from = from; config = config; number = number; pieces = pieces; rows = rows; delivers = refl; takes = takes; is = let k : new ≡ g = cc h in sym k ∙ e })
 gathering_by tests version node input out (FollowsPieces from config number pieces rows new v m takes e w) g h = absurd (cc h)

@@ -34,7 +34,8 @@ use Rattle.protocol_laws.proofs.Stored.{one_config, stored-some}
 use Rattle.protocol_laws.proofs.TransferConfigs.{member_shard}
 use Rattle.protocol_laws.proofs.TransferEvents.{node_back, IsOfActing, effect_name, effect_shard}
 use Rattle.protocol_laws.proofs.TransferEnters.{enters, EntersAs}
-use Rattle.protocol_laws.proofs.TransferReached.{Enters, enters_it}
+use Rattle.protocol_laws.proofs.TransferReached.{Enters, entered}
+use Rattle.protocol_laws.proofs.ConfigurationsHad.{had}
 
 -- the entries of rows joined
 pub joined-entries : (xs ys : List Row) (x : Preparation) → StandsIn x (entries_of (xs ++ ys)) → StandsIn x (entries_of xs) ⊎ StandsIn x (entries_of ys)
@@ -125,9 +126,7 @@ leads_it setup t ct node n pt l = go node.role refl l
         let among : StandsIn c (role_configs node.role) = subst (λ (r : Role). StandsIn c (role_configs r)) (sym e) (inl refl) in (
           c,
           e,
-          ct.in_nodes node c n
-              (StandsIn-left (node.coordinator.views ++ role_configs node.role ++ probed_configs node.prober) (gathered_configs node.gathering) c
-              (StandsIn-left (node.coordinator.views ++ role_configs node.role) (probed_configs node.prober) c (StandsIn-right node.coordinator.views (role_configs node.role) c among))),
+          ct.in_nodes node c n ((had node c).role among),
           f.0,
           f.1,
         )
@@ -183,13 +182,8 @@ held_how tests setup t event h turn cu onward c name x s m held = elim (held-bac
         stays i o (sym e ∙ (sym (ap (λ (n : NodeRecord). n.state) o.is) ∙ i.in_epoch))
         (entries_by tests setup.version o.acting.node o.acting.input o.acting.out o.acting.effect e x (subst (λ (n : NodeRecord). StandsIn x (entries_of n.rows)) o.is i.holds))
     acted i o (inr f) =
-        inr (EntersWith (record {
-          new = i.node;
-          there = i.is;
-          named = i.named;
-          state = i.in_epoch;
-          how = enters_it setup t (goes_to t h.after) onward cu c i.node s i.is (subst (λ k. StandsIn k c.members) (sym i.named) m) i.in_epoch (subst (λ (n : NodeRecord). EntersAs t (goes_to t h.after) n) (sym o.is) f);
-        }) i.holds)
+        inr (EntersWith (entered setup t (goes_to t h.after) c name onward cu (record { node = i.node; is = i.is; named = i.named; in_epoch = i.in_epoch }) s m
+        (subst (λ (n : NodeRecord). EntersAs t (goes_to t h.after) n) (sym o.is) f)) i.holds)
 
     is_in : (i : HoldsNow (goes_to t h.after) c.epoch name x) → IsNode t i.node ⊎ IsOfActing tests setup t event h i.node → Held t c.epoch name x ⊎ Gains tests t (goes_to t h.after) c name x
     is_in i (inl n) = inl (record { node = i.node; was = is_in-now t c.epoch name i.node n i.named i.in_epoch; some = held.some; holds = i.holds })

@@ -15,7 +15,7 @@ use Rattle.protocol.specs.Records.{Piece}
 use Rattle.protocol.specs.Views.{same_config}
 use Rattle.protocol.specs.Invariant.Time.{StandsIn}
 use Rattle.protocol.proofs.Lists.{StandsIn-append}
-use Rattle.protocol_laws.proofs.TransferAscending.{tail-ascends, tail-above}
+use Rattle.protocol_laws.proofs.Ascending.{tail-ascends, tail-above}
 use Rattle.protocol_laws.proofs.Standing.{filter-StandsIn}
 
 abbrev numbers : List Piece → List ℕ

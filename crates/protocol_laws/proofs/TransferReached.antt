@@ -87,6 +87,15 @@ enters_it setup t u onward cu c new s n m e f = go f.how
         let is : f.config ≡ c = one_config setup u f.config c cu (onward.stored f.config l.stored) s (l.shard ∙ shard) (sym l.state ∙ e) in
         inr (subst (λ (d : Membership). Following t u d new) is l)
 
+abbrev pub entered : (setup : Deployment) (t u : Moment) (c : Membership) (name : ℕ) → Onward t u → ConfigurationsHold setup u → (i : IsIn u c.epoch name) → IsStored u c → StandsIn name c.members → EntersAs t u i.node → Enters t u c name
+entered setup t u c name onward cu i s m f = record {
+  new = i.node;
+  there = i.is;
+  named = i.named;
+  state = i.in_epoch;
+  how = enters_it setup t u onward cu c i.node s i.is (subst (λ k. StandsIn k c.members) (sym i.named) m) i.in_epoch f;
+}
+
 -- a member that reached a configuration reached it before, or enters it
 pub reached_how : (tests : Tests) (setup : Deployment) (t : Moment) (event : Event) (h : Happening) → Turn tests setup t event h → ConfigurationsHold setup (goes_to t h.after) → Onward t (goes_to t h.after) → (c : Membership) (name : ℕ) → IsStored (goes_to t h.after) c → StandsIn name c.members → Reached (goes_to t h.after) c.epoch name
     → Reached t c.epoch name ⊎ Enters t (goes_to t h.after) c name
@@ -100,13 +109,7 @@ reached_how tests setup t event h turn cu onward c name s m r = elim (reached-ba
         let named : o.acting.node.name ≡ name = sym (effect_name tests setup.version o.acting.node o.acting.input o.acting.out o.acting.effect) ∙ (sym (ap (λ (x : NodeRecord). x.name) o.is) ∙ i.named) in
         let state : o.acting.node.state ≡ c.epoch = sym e ∙ (sym (ap (λ (x : NodeRecord). x.state) o.is) ∙ i.in_epoch) in
         inl (record { node = o.acting.node; was = is_in-now t c.epoch name o.acting.node o.acting.is named state; some = r.some })
-    acted i o (inr f) = inr (record {
-      new = i.node;
-      there = i.is;
-      named = i.named;
-      state = i.in_epoch;
-      how = enters_it setup t (goes_to t h.after) onward cu c i.node s i.is (subst (λ k. StandsIn k c.members) (sym i.named) m) i.in_epoch (subst (λ (x : NodeRecord). EntersAs t (goes_to t h.after) x) (sym o.is) f);
-    })
+    acted i o (inr f) = inr (entered setup t (goes_to t h.after) c name onward cu i s m (subst (λ (x : NodeRecord). EntersAs t (goes_to t h.after) x) (sym o.is) f))
 
     is_in : (i : IsIn (goes_to t h.after) c.epoch name) → IsNode t i.node ⊎ IsOfActing tests setup t event h i.node → Reached t c.epoch name ⊎ Enters t (goes_to t h.after) c name
     is_in i (inl n) = inl (record { node = i.node; was = is_in-now t c.epoch name i.node n i.named i.in_epoch; some = r.some })

@@ -10,7 +10,7 @@ use Rattle.protocol.specs.Cases.{cause_by, cause_of, decision_at, decision_by, d
 use Rattle.protocol.specs.Invariant.Time.{StandsIn}
 use Rattle.protocol.specs.Records.{Part}
 use Rattle.protocol.proofs.Lists.{find-StandsIn}
-use Rattle.protocol_laws.proofs.Standing.{find-none}
+use Rattle.protocol_laws.proofs.Standing.{find-none, is-none}
 
 -- a vote that is no cause is to commit
 pub no_cause : (v : Vote) → cause_by v ≡ None → v ≡ votes.Commit
@@ -28,10 +28,6 @@ lost_cause votes.Commit h = absurd (cc h)
 lost_cause (votes.Clash txn) h = absurd (cc h)
 lost_cause votes.Lost h = refl
 
-none_from : {X : Type 0} (o : Option X) → is_some o ≡ false → o ≡ None
-none_from None h = refl
-none_from (Some x) h = absurd (cc h)
-
 -- where the decision is to commit, no part has a cause not to
 pub commit-each : (parts : List Part) (p : Part) → decision_of parts ≡ decisions.Commit → StandsIn p parts → cause_of p.entry ≡ None
 unfolding decision_of
@@ -41,7 +37,7 @@ commit-each parts p h s = go (find (λ q. is_some (cause_of q.entry)) parts) ref
     none q None e f d = absurd (cc f)
     none q (Some c) e f d = absurd (cc d)
     go : (o : Option Part) → find (λ q. is_some (cause_of q.entry)) parts ≡ o → decision_by o ≡ decisions.Commit → cause_of p.entry ≡ None
-    go None e d = none_from (cause_of p.entry) (find-none (λ q. is_some (cause_of q.entry)) parts p e s)
+    go None e d = is-none (cause_of p.entry) (find-none (λ q. is_some (cause_of q.entry)) parts p e s)
     go (Some q) e d = none q (cause_of q.entry) refl (find-StandsIn (λ q. is_some (cause_of q.entry)) parts q e).1 d
 
 -- where it is to abort, the named shard has a part with that cause

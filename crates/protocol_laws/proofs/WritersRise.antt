@@ -9,7 +9,7 @@ use Rattle.tcs_laws.specs.Writing.{writes_name}
 use Rattle.protocol.specs.CorrectHistory.{is_legal}
 use Rattle.protocol.specs.History.{order_of, payload_in, payloads_of}
 use Rattle.protocol.specs.Invariant.Time.{StandsIn}
-use Rattle.protocol_laws.proofs.LegalOrder.{IsOf, legal-each, payloads-append, payloads-first, payloads-IsOf}
+use Rattle.protocol_laws.proofs.LegalOrder.{IsPayloadOf, legal-each, payloads-append, payloads-first, payload-of}
 use Rattle.protocol_laws.proofs.PayloadReads.{writers-rise}
 use Rattle.protocol_laws.proofs.Standing.{StandsIn-left, StandsIn-right}
 
@@ -23,7 +23,7 @@ pub rise-in-order : (tests : Tests) (h : List Note) (front : List TxId) (a : TxI
     → order_of h ≡ front ++ (a ∷ rest) → payload_in h a ≡ Some old → StandsIn new (payloads_of h rest)
     → writes_name old.writes name ≡ true → writes_name new.writes name ≡ true → old.version < new.version
 rise-in-order tests h front a rest old new name o l e p s x y =
-    let of : IsOf h rest new = payloads-IsOf h rest new s in
+    let of : IsPayloadOf h rest new = payload-of h rest new s in
     let place : order_of h ≡ (front ++ (a ∷ of.before)) ++ (of.txn ∷ of.after) =
       e ∙ ap (λ ts. front ++ (a ∷ ts)) of.split ∙ sym (append_assoc front (a ∷ of.before) (of.txn ∷ of.after)) in
     let there : StandsIn old (payloads_of h (front ++ (a ∷ of.before))) =

@@ -32,7 +32,7 @@ ascending-one f (x ∷ xs) a b up (inr p) (inl q) e = absurd (let k : f x < f a 
 ascending-one f (x ∷ xs) a b up (inr p) (inr q) e = ascending-one f xs a b (tail-ascends f x xs up) p q e
 
 -- a transaction that stands first stands nowhere else
-txn_apart : {X : Type 0} (f : X → TxId) (x : X) (xs : List X) (y : X) → txns_differ (map f (x ∷ xs)) ≡ true → StandsIn y xs → f y ≡ f x → ⊥
+pub txn_apart : {X : Type 0} (f : X → TxId) (x : X) (xs : List X) (y : X) → txns_differ (map f (x ∷ xs)) ≡ true → StandsIn y xs → f y ≡ f x → ⊥
 txn_apart f x xs y d s e =
     let k : list_any (same_txn (f x)) (map f xs) ≡ true = any-from (same_txn (f x)) (map f xs) (f y) (StandsIn-map f xs y s) (ap (same_txn (f x)) e ∙ same_txn-self (f x)) in
     let m : list_any (same_txn (f x)) (map f xs) ≡ false = not_false (list_any (same_txn (f x)) (map f xs)) (left_of (not (list_any (same_txn (f x)) (map f xs))) (txns_differ (map f xs)) d) in
