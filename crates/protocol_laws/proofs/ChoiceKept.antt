@@ -25,12 +25,13 @@ use Rattle.protocol_laws.proofs.ConfigurationsInputs.{delivered}
 use Rattle.protocol_laws.proofs.ConfigurationsSends.{is_plain}
 use Rattle.protocol_laws.proofs.ConfigurationsSaid.{Says}
 use Rattle.protocol_laws.proofs.ConfigurationsSaid.Says.{Plainly, Answers, Tells, Proposes}
-use Rattle.protocol_laws.proofs.ConfigurationsStored.{ServiceSays, service_stored}
-use Rattle.protocol_laws.proofs.ConfigurationsStored.ServiceSays.{SaysPlainly, TellsStored}
+use Rattle.protocol_laws.proofs.ConfigurationsStored.{service_stored}
+use Rattle.protocol_laws.proofs.ServiceSays.ServiceSays.{TellsStored, TellsChange, Refuses}
 use Rattle.protocol_laws.proofs.ProbeAnswersSent.{SentHow, sent_how}
 use Rattle.protocol_laws.proofs.ProbeAnswersSent.SentHow.{ByNode, ByService}
 use Rattle.protocol_laws.proofs.ChoiceOn.{chosen-on, stage-on}
 use Rattle.protocol_laws.proofs.ChoiceStage.{stage_holds}
+use Rattle.protocol_laws.proofs.ServiceSays.{ServiceSays}
 
 -- each prober's stage held already, as of the moment before
 stages_held : (tests : Tests) (setup : Deployment) (t : Moment) (event : Event) (h : Happening) → InvariantHolds tests setup t → event_fits setup event ≡ true → Change tests setup.version t.now event h
@@ -66,8 +67,9 @@ how-chosen u t from c h (ByNode node kept input n k f s w) = said-chosen u node 
 how-chosen u t from c h (ByService w) = absurd (none w refl)
   where
     none : {m : Message} → ServiceSays u.now.configs m → m ≡ Cas c → ⊥
-    none (SaysPlainly m p) e = let x : is_plain (Cas c) ≡ true = subst (λ v. is_plain v ≡ true) e p in cc x
-    none (TellsStored m d k p n) e = n c e
+    none (TellsStored d k) e = cc e
+    none (TellsChange d k) e = cc e
+    none (Refuses kind why mark) e = cc e
 
 -- One event keeps leader choice.
 pub choice_kept : (tests : Tests) (setup : Deployment) (t : Moment) (event : Event) (h : Happening) → Turn tests setup t event h → ConfigurationsHold setup (goes_to t h.after) → PromisesHold (goes_to t h.after) → AnswersHold (goes_to t h.after)

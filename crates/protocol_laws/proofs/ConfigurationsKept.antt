@@ -4,7 +4,7 @@ use Rattle.std.specs.List.{range_with_len}
 use Rattle.tcs_terms.specs.declared.inputs.Event.{Event}
 use Rattle.tcs_terms.specs.declared.inputs.Input.{Input}
 use Rattle.tcs_terms.specs.declared.messages.Message.{Message}
-use Rattle.tcs_terms.specs.declared.messages.Message.TheVariants.{Cas}
+use Rattle.tcs_terms.specs.declared.messages.Message.TheVariants.{Cas, Refused}
 use Rattle.tcs_terms.specs.Events.{event_fits}
 use Rattle.tcs_terms.specs.Places.{Membership}
 use Rattle.tcs_terms.specs.Setups.{Deployment}
@@ -30,8 +30,9 @@ use Rattle.protocol_laws.proofs.ConfigurationsHad.{Heard, had, configs_had}
 use Rattle.protocol_laws.proofs.ConfigurationsSame.{SameNode, same_node}
 use Rattle.protocol_laws.proofs.ConfigurationsWanted.{WantsWell, wants_kept}
 use Rattle.protocol_laws.proofs.ConfigurationsInputs.{delivered, moved}
-use Rattle.protocol_laws.proofs.ConfigurationsStored.{ServiceSays, service_says, service_keeps, service_stored, service_epochs}
-use Rattle.protocol_laws.proofs.ConfigurationsStored.ServiceSays.{SaysPlainly, TellsStored}
+use Rattle.protocol_laws.proofs.ConfigurationsStored.{service_keeps, service_stored, service_epochs}
+use Rattle.protocol_laws.proofs.ServiceSays.ServiceSays.{TellsStored, TellsChange, Refuses}
+use Rattle.protocol_laws.proofs.ServiceSays.{ServiceSays, service_says}
 
 -- what is said of one node
 record NodeFits (setup : Deployment) (u : Moment) (node : NodeRecord) : Type 0 where
@@ -155,8 +156,9 @@ acts_kept tests setup t event name node input out v f k n e =
     }
 
 service-fits : (setup : Deployment) (u : Moment) (m : Message) → ServiceSays u.now.configs m → MessageFits setup u m
-service-fits setup u m (SaysPlainly n p) = plain-fits setup u n p
-service-fits setup u m (TellsStored n c k e d) = record { stored = λ q r. let x : c ≡ q = cc (e, r) in subst (λ y. IsStored u y) x k; proposed = λ q r. absurd (d q r) }
+service-fits setup u m (TellsStored c k) = record { stored = λ q r. let x : c ≡ q = cc r in subst (λ y. IsStored u y) x k; proposed = λ q r. absurd (cc r) }
+service-fits setup u m (TellsChange c k) = record { stored = λ q r. let x : c ≡ q = cc r in subst (λ y. IsStored u y) x k; proposed = λ q r. absurd (cc r) }
+service-fits setup u m (Refuses kind why mark) = plain-fits setup u (Refused kind why mark) refl
 
 serves_kept : (setup : Deployment) (t : Moment) (from : ℕ) (message : Message) (out : Out (List Membership)) → ConfigurationsHold setup t → WasSent t from 0 message
     → Serves (length t.now.nodes) t.now.configs from message out → KeepsPlaces setup t (goes_to t (happens_at_service t.now out).after)

@@ -22,32 +22,6 @@ use Rattle.protocol_laws.proofs.Standing.{StandsIn-left, StandsIn-right}
 abbrev pub EpochsFit : List Membership → Type 0
 EpochsFit cs = map (λ c. c.epoch) cs ≡ range_with_len 1 (epoch_of (last_or None cs))
 
--- what the service says: something plain, or a configuration that is stored now
-pub data ServiceSays (kept : List Membership) : Message → Type 0 where
-  SaysPlainly : (m : Message) → is_plain m ≡ true → ServiceSays kept m
-  TellsStored : (m : Message) (c : Membership) → StandsIn c kept → told_config m ≡ Some c → (((d : Membership) → m ≡ Cas d → ⊥)) → ServiceSays kept m
-
-one-told : (kept : List Membership) (o : Outgoing) → ServiceSays kept o.message → (p : Outgoing) → StandsIn p (o ∷ []) → ServiceSays kept p.message
-one-told kept o h p (inl e) = subst (λ q. ServiceSays kept q.message) (sym e) h
-one-told kept o h p (inr s) = absurd s
-
-nodes-told : (kept : List Membership) (c : Membership) → StandsIn c kept → (names : List ℕ) (o : Outgoing) → StandsIn o (map (λ node. to node (ConfigChange c)) names) → ServiceSays kept o.message
-nodes-told kept c k [] o s = absurd s
-nodes-told kept c k (n ∷ ns) o (inl e) = subst (λ q. ServiceSays kept q.message) (sym e) (TellsStored (ConfigChange c) c k refl (λ d e. cc e))
-nodes-told kept c k (n ∷ ns) o (inr s) = nodes-told kept c k ns o s
-
-tell_nodes-told : (kept : List Membership) (c : Membership) → StandsIn c kept → (nodes : ℕ) (o : Outgoing) → StandsIn o (tell_nodes nodes c) → ServiceSays kept o.message
-unfolding tell_nodes
-tell_nodes-told kept c k nodes o s = nodes-told kept c k (range_with_len 1 nodes) o s
-
-pub service_says : (nodes : ℕ) (configs : List Membership) (from : ℕ) (message : Message) (out : Out (List Membership)) → Serves nodes configs from message out
-    → (o : Outgoing) → StandsIn o out.sends → ServiceSays out.kept o.message
-service_says nodes configs from message out (HoldsBack m answer notices n) o s = SaysPlainly o.message (notices-plain notices n o s)
-service_says nodes configs from message out (Tells m c k) o s = one-told configs (to from (Stored c)) (TellsStored (Stored c) c k refl (λ d e. cc e)) o s
-service_says nodes configs from message out (Stores c last n l e) o (inl q) =
-    subst (λ p. ServiceSays (configs ++ c ∷ []) p.message) (sym q) (TellsStored (Stored c) c (StandsIn-right configs (c ∷ []) c (inl refl)) refl (λ d e. cc e))
-service_says nodes configs from message out (Stores c last n l e) o (inr s) = tell_nodes-told (configs ++ c ∷ []) c (StandsIn-right configs (c ∷ []) c (inl refl)) nodes o s
-
 -- what is stored stays
 pub service_keeps : (nodes : ℕ) (configs : List Membership) (from : ℕ) (message : Message) (out : Out (List Membership)) → Serves nodes configs from message out
     → (c : Membership) → StandsIn c configs → StandsIn c out.kept

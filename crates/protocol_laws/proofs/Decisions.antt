@@ -12,7 +12,7 @@ use Rattle.tcs_terms.specs.declared.votes.Decision.{Decision}
 use Rattle.tcs_terms.specs.Logs.{same_txn}
 use Rattle.tcs_terms.specs.Setups.{Deployment}
 use Rattle.tcs_laws.specs.Certification.{Tests}
-use Rattle.protocol.specs.Outcomes.{Out}
+use Rattle.protocol.specs.Outcomes.{Out, to}
 use Rattle.protocol.specs.Records.{NodeRecord}
 use Rattle.protocol.specs.Table.{with_outcome}
 use Rattle.protocol.specs.World.{Sent, Happening}
@@ -34,15 +34,15 @@ use Rattle.protocol_laws.proofs.DecisionsLast.{is_decided-on, is_behind-on, row_
 use Rattle.protocol_laws.proofs.DecisionsMessages.{acting_agrees, acting_decided}
 use Rattle.protocol_laws.proofs.DecisionsRows.{acting_rows_hold}
 use Rattle.protocol_laws.proofs.DecisionsTaken.{MessageAgrees}
-use Rattle.protocol_laws.proofs.TransactionsActing.{Acting, acting_of}
-use Rattle.protocol_laws.proofs.TransactionsCame.{IsServed, NodeCame, MessageCame, NoteCame, node_came, message_came, note_came}
-use Rattle.protocol_laws.proofs.TransactionsCame.IsServed.{ServesStored, ServesChange, ServesNotice}
-use Rattle.protocol_laws.proofs.TransactionsCame.NodeCame.{WasThere, HasActed}
-use Rattle.protocol_laws.proofs.TransactionsCame.MessageCame.{WasThereBefore, NodeSent, ServiceSent}
-use Rattle.protocol_laws.proofs.TransactionsCame.NoteCame.{WasNotedBefore, NodeNoted}
+use Rattle.protocol_laws.proofs.TransactionsActing.{IsActing, is_acting}
+use Rattle.protocol_laws.proofs.Noted.NoteCame.{WasNotedBefore, NodeNoted}
 use Rattle.protocol_laws.proofs.TransactionsLast.{noted-on}
 use Rattle.protocol_laws.proofs.TransactionsNotes.{goes_of}
-use Rattle.protocol_laws.proofs.TransferEvents.{effect_shard}
+use Rattle.protocol_laws.proofs.Came.{effect_shard, node_back, message_back, Acting}
+use Rattle.protocol_laws.proofs.ServiceSays.{ServiceSays}
+use Rattle.protocol_laws.proofs.ServiceSays.ServiceSays.{TellsStored, TellsChange, Refuses}
+use Rattle.protocol_laws.proofs.Noted.{NoteCame, note_came}
+use Rattle.tcs_terms.specs.Places.{Membership}
 
 -- a kept outcome after an input: it was kept, or the message told it
 outcome_came : (txn other : TxId) (decision told : Decision) (outcomes : List (TxId × Decision)) → StandsIn (txn, decision) (with_outcome outcomes other told) → StandsIn (txn, decision) outcomes ⊎ ((other ≡ txn) × (told ≡ decision))
@@ -56,7 +56,7 @@ outcome_came txn other decision told outcomes s = go (is_some (lookup (same_txn 
       | inr (inr r) ↦ absurd r
     ]
 
-acting_kept : (tests : Tests) (version : ℕ) (setup : Deployment) (t u : Moment) (node : NodeRecord) (input : Input) (out : Out NodeRecord) (txn : TxId) (decision : Decision) → Acting tests setup t u node input out → Effect tests version node input out
+acting_kept : (tests : Tests) (version : ℕ) (setup : Deployment) (t u : Moment) (node : NodeRecord) (input : Input) (out : Out NodeRecord) (txn : TxId) (decision : Decision) → IsActing tests setup t u node input out → Effect tests version node input out
     → StandsIn (txn, decision) out.kept.outcomes → WasNoted u (notes.Decide txn decision)
 acting_kept tests version setup t u node _ _ txn decision a (Keeps from other told home low) s = go (outcome_came txn other decision told node.outcomes s)
   where
@@ -81,51 +81,52 @@ old_agrees setup t u from name m o d s = go m s
     go (OutcomeOf txn decision) s = noted-on t u (notes.Decide txn decision) o (d.outcomes from name txn decision s)
     go _ s = tt
 
-served_agrees : (t : Moment) (name : ℕ) (m : Message) → IsServed m → MessageAgrees t name m
-served_agrees t name _ (ServesStored c) = tt
-served_agrees t name _ (ServesChange c) = tt
-served_agrees t name _ (ServesNotice kind mark why) = tt
+served_agrees : (t : Moment) (kept : List Membership) (name : ℕ) (m : Message) → ServiceSays kept m → MessageAgrees t name m
+served_agrees t kept name _ (TellsStored c k) = tt
+served_agrees t kept name _ (TellsChange c k) = tt
+served_agrees t kept name _ (Refuses kind why mark) = tt
 
 -- each message agrees with decisions that were taken
 all_agree : (tests : Tests) (setup : Deployment) (t : Moment) (event : Event) (h : Happening) → Turn tests setup t event h → ConfigurationsHold setup (goes_to t h.after) → (from name : ℕ) (m : Message)
     → WasSent (goes_to t h.after) from name m → MessageAgrees (goes_to t h.after) name m
-all_agree tests setup t event h turn configurations from name m s = go (message_came tests setup.version t.now event h (record { from = from; to = name; message = m }) turn.change s.sent)
-  where
-    go : MessageCame tests setup.version t.now event h (record { from = from; to = name; message = m }) → MessageAgrees (goes_to t h.after) name m
-    go (WasThereBefore k) = old_agrees setup t (goes_to t h.after) from name m (onward_of tests setup t event h turn) turn.before.decisions (record { sent = k })
-    go (NodeSent a i) =
-        subst (λ (x : Sent). MessageAgrees (goes_to t h.after) x.to x.message) (sym i.is)
-        (acting_agrees tests setup.version setup t (goes_to t h.after) a.node a.input a.out (acting_of tests setup t event h turn configurations a) a.effect i.outgoing i.among)
-    go (ServiceSent k) = served_agrees (goes_to t h.after) name m k
+all_agree tests setup t event h turn configurations from name m s = elim (message_back tests setup t event h turn from name m s) [
+  | inl k ↦ old_agrees setup t (goes_to t h.after) from name m (onward_of tests setup t event h turn) turn.before.decisions k
+  | inr (inl k) ↦ acting_agrees tests setup.version setup t (goes_to t h.after) k.acting.node k.acting.input k.acting.out (is_acting tests setup t event h turn configurations k.acting) k.acting.effect (to name m) k.among
+  | inr (inr k) ↦ served_agrees (goes_to t h.after) h.after.configs name m k
+]
 
 decided_kept : (tests : Tests) (setup : Deployment) (t : Moment) (event : Event) (h : Happening) → Turn tests setup t event h → ConfigurationsHold setup (goes_to t h.after) → (txn : TxId) (decision : Decision)
     → WasNoted (goes_to t h.after) (notes.Decide txn decision) → IsDecidedBy setup.shards (goes_to t h.after) txn decision
-decided_kept tests setup t event h turn configurations txn decision s = go (note_came tests setup.version t.now event h (notes.Decide txn decision) turn.change s)
+decided_kept tests setup t event h turn configurations txn decision s = go (note_came tests setup t event h (notes.Decide txn decision) turn s)
   where
-    go : NoteCame tests setup.version t.now event h (notes.Decide txn decision) → IsDecidedBy setup.shards (goes_to t h.after) txn decision
+    go : NoteCame tests setup t event h (notes.Decide txn decision) → IsDecidedBy setup.shards (goes_to t h.after) txn decision
     go (WasNotedBefore k) = is_decided-on setup.shards t (goes_to t h.after) txn decision (goes_of tests setup t event h turn) (turn.before.decisions.decided txn decision k)
-    go (NodeNoted a k) = acting_decided tests setup.version setup t (goes_to t h.after) a.node a.input a.out txn decision (acting_of tests setup t event h turn configurations a) a.effect k
+    go (NodeNoted a k) = acting_decided tests setup.version setup t (goes_to t h.after) a.node a.input a.out txn decision (is_acting tests setup t event h turn configurations a) a.effect k
 
 rows_hold : (tests : Tests) (setup : Deployment) (t : Moment) (event : Event) (h : Happening) → Turn tests setup t event h → ConfigurationsHold setup (goes_to t h.after) → (node : NodeRecord) (r : Row)
     → IsNode (goes_to t h.after) node → StandsIn r node.rows → RowHolds (goes_to t h.after) node.shard node.state r
-rows_hold tests setup t event h turn configurations node r n s = go (node_came tests setup.version t.now event h node turn.change n)
+rows_hold tests setup t event h turn configurations node r n s = elim (node_back tests setup t event h turn node n) [
+  | inl k ↦ row_holds-on t (goes_to t h.after) node.shard node.state r (onward_of tests setup t event h turn) (turn.before.decisions.rows node r k s)
+  | inr o ↦ now o.acting o.is
+]
   where
-    go : NodeCame tests setup.version t.now event h node → RowHolds (goes_to t h.after) node.shard node.state r
-    go (WasThere k) = row_holds-on t (goes_to t h.after) node.shard node.state r (onward_of tests setup t event h turn) (turn.before.decisions.rows node r k s)
-    go (HasActed a e) =
+    now : (a : Acting tests setup t event h) → node ≡ a.out.kept → RowHolds (goes_to t h.after) node.shard node.state r
+    now a e =
         let holds : RowHolds (goes_to t h.after) a.node.shard a.out.kept.state r =
-        acting_rows_hold tests setup.version setup t (goes_to t h.after) a.node a.input a.out r (acting_of tests setup t event h turn configurations a) a.effect (subst (λ (x : NodeRecord). StandsIn r x.rows) e s) in
+        acting_rows_hold tests setup.version setup t (goes_to t h.after) a.node a.input a.out r (is_acting tests setup t event h turn configurations a) a.effect (subst (λ (x : NodeRecord). StandsIn r x.rows) e s) in
         subst (λ (x : NodeRecord). RowHolds (goes_to t h.after) x.shard x.state r) (sym e)
         (subst (λ x. RowHolds (goes_to t h.after) x a.out.kept.state r) (sym (effect_shard tests setup.version a.node a.input a.out a.effect)) holds)
 
 kept_kept : (tests : Tests) (setup : Deployment) (t : Moment) (event : Event) (h : Happening) → Turn tests setup t event h → ConfigurationsHold setup (goes_to t h.after) → (node : NodeRecord) (txn : TxId) (decision : Decision)
     → IsNode (goes_to t h.after) node → StandsIn (txn, decision) node.outcomes → WasNoted (goes_to t h.after) (notes.Decide txn decision)
-kept_kept tests setup t event h turn configurations node txn decision n s = go (node_came tests setup.version t.now event h node turn.change n)
+kept_kept tests setup t event h turn configurations node txn decision n s = elim (node_back tests setup t event h turn node n) [
+  | inl k ↦ noted-on t (goes_to t h.after) (notes.Decide txn decision) (onward_of tests setup t event h turn) (turn.before.decisions.kept node txn decision k s)
+  | inr o ↦ now o.acting o.is
+]
   where
-    go : NodeCame tests setup.version t.now event h node → WasNoted (goes_to t h.after) (notes.Decide txn decision)
-    go (WasThere k) = noted-on t (goes_to t h.after) (notes.Decide txn decision) (onward_of tests setup t event h turn) (turn.before.decisions.kept node txn decision k s)
-    go (HasActed a e) =
-        acting_kept tests setup.version setup t (goes_to t h.after) a.node a.input a.out txn decision (acting_of tests setup t event h turn configurations a) a.effect (subst (λ (x : NodeRecord). StandsIn (txn, decision) x.outcomes) e s)
+    now : (a : Acting tests setup t event h) → node ≡ a.out.kept → WasNoted (goes_to t h.after) (notes.Decide txn decision)
+    now a e =
+        acting_kept tests setup.version setup t (goes_to t h.after) a.node a.input a.out txn decision (is_acting tests setup t event h turn configurations a) a.effect (subst (λ (x : NodeRecord). StandsIn (txn, decision) x.outcomes) e s)
 
 pub decisions_kept : (tests : Tests) (setup : Deployment) (t : Moment) (event : Event) (h : Happening) → Turn tests setup t event h → ConfigurationsHold setup (goes_to t h.after) → PromisesHold (goes_to t h.after)
     → AnswersHold (goes_to t h.after) → ChoiceHolds (goes_to t h.after) → TransferHolds (goes_to t h.after) → EntriesHold tests (goes_to t h.after) → TransactionsHold setup (goes_to t h.after) → DecisionsHold setup (goes_to t h.after)

@@ -19,13 +19,13 @@ use Rattle.protocol.specs.Invariant.Logs.{Held, Listed, Accepted}
 use Rattle.protocol.specs.Invariant.Time.{Moment, StandsIn, IsStored}
 use Rattle.protocol.proofs.Lists.{all-StandsIn, among-StandsIn, StandsIn-append}
 use Rattle.protocol_laws.specs.Effect.{OpenPart}
-use Rattle.protocol_laws.proofs.TransactionsActing.{Acting}
 use Rattle.protocol_laws.proofs.Standing.{StandsIn-filter}
 use Rattle.protocol_laws.proofs.TransactionsLists.{lookup-StandsIn}
 use Rattle.protocol_laws.proofs.Stored.{one_config}
 use Rattle.protocol_laws.proofs.TransactionsPlaces.{view_is, IsView}
 use Rattle.protocol_laws.proofs.CaseParts.{part_is, IsPartOf}
 use Rattle.protocol_laws.proofs.EntriesCases.{with_part-holds, voted-holds, acknowledged-holds}
+use Rattle.protocol_laws.proofs.TransactionsActing.{IsActing}
 
 -- whoever acknowledged a listed entry held that entry; where all followers did, it is accepted
 pub all_held : (tests : Tests) (setup : Deployment) (t : Moment) (txn : TxId) (v : Membership) (entry : Preparation) (acks : List ℕ) → InvariantHolds tests setup t → IsStored t v → Listed t v entry
@@ -71,12 +71,12 @@ complete_part tests setup t views txn p i stored = go (view_of views p.shard) p.
     }
 
 -- the case of a node, as it was
-old_case : (tests : Tests) (setup : Deployment) (t u : Moment) (node : NodeRecord) (input : Input) (out : Out NodeRecord) (txn : TxId) (case : Case) → Acting tests setup t u node input out → case_of node.coordinator txn ≡ Some case
+old_case : (tests : Tests) (setup : Deployment) (t u : Moment) (node : NodeRecord) (input : Input) (out : Out NodeRecord) (txn : TxId) (case : Case) → IsActing tests setup t u node input out → case_of node.coordinator txn ≡ Some case
     → CaseHolds t node.coordinator.views txn case
 old_case tests setup t u node input out txn case a e = a.before.entries.cases node txn case a.is (lookup-StandsIn txn node.coordinator.cases case e)
 
 pub votes_hold : (tests : Tests) (setup : Deployment) (t u : Moment) (node : NodeRecord) (input : Input) (out : Out NodeRecord) (from shard epoch : ℕ) (entry : Preparation) (case : Case) (part : Part) (view : Membership)
-    → Acting tests setup t u node input out → input ≡ inputs.Deliver from (PrepareAck shard epoch entry) → OpenPart node.coordinator entry.txn shard case part view → view.epoch ≡ epoch
+    → IsActing tests setup t u node input out → input ≡ inputs.Deliver from (PrepareAck shard epoch entry) → OpenPart node.coordinator entry.txn shard case part view → view.epoch ≡ epoch
     → CaseHolds t node.coordinator.views entry.txn (with_part case (voted part entry))
 votes_hold tests setup t u node input out from shard epoch entry case part view a e o at =
     let is : IsPartOf case.parts shard part = part_is case.parts shard part o.has in
@@ -89,7 +89,7 @@ votes_hold tests setup t u node input out from shard epoch entry case part view 
     (voted-holds t entry.txn view (view_of node.coordinator.views part.shard) part.entry part.acks entry sees (c.parts part is.among) (λ none. subst (λ x. Listed t x entry) same l.listed) refl)
 
 pub acknowledges_hold : (tests : Tests) (setup : Deployment) (t u : Moment) (node : NodeRecord) (input : Input) (out : Out NodeRecord) (from shard epoch slot : ℕ) (txn : TxId) (case : Case) (part : Part) (view : Membership)
-    → Acting tests setup t u node input out → input ≡ inputs.Deliver from (AcceptAck shard epoch slot txn) → OpenPart node.coordinator txn shard case part view → view.epoch ≡ epoch → voted_at part.entry slot ≡ true
+    → IsActing tests setup t u node input out → input ≡ inputs.Deliver from (AcceptAck shard epoch slot txn) → OpenPart node.coordinator txn shard case part view → view.epoch ≡ epoch → voted_at part.entry slot ≡ true
     → CaseHolds t node.coordinator.views txn (with_part case (acknowledged part from))
 acknowledges_hold tests setup t u node input out from shard epoch slot txn case part view a e o at voted =
     let is : IsPartOf case.parts shard part = part_is case.parts shard part o.has in

@@ -34,11 +34,11 @@ use Rattle.protocol_laws.specs.Effect.Effect.{Rests, Certifies, TakesOver, Nudge
 use Rattle.protocol_laws.proofs.DecisionsAccepted.{votes_hold, acknowledges_hold}
 use Rattle.protocol_laws.proofs.DecisionsRows.{acting_rows_hold}
 use Rattle.protocol_laws.proofs.DecisionsTaken.{MessageAgrees, SendsAgree, agree_both, agree_one, IsReady, goes_on_decided, goes_on_told}
-use Rattle.protocol_laws.proofs.TransactionsActing.{Acting}
 use Rattle.protocol_laws.proofs.TransactionsCases.{voted_case, acknowledged_case}
 use Rattle.protocol_laws.proofs.Standing.{IsMapped, map-StandsIn, IsPiece, flat_map-StandsIn}
 use Rattle.protocol_laws.proofs.TransactionsMessages.{SaysNothing, AreSilent, stage_silent, hears_silent, piece_row}
 use Rattle.protocol_laws.proofs.TransactionsMessages.SaysNothing.{IsProbe, IsProbeAck, IsNewConfig, IsLast, IsAt, IsCas}
+use Rattle.protocol_laws.proofs.TransactionsActing.{IsActing}
 
 nothing_agrees : (t : Moment) (name : ℕ) (m : Message) → SaysNothing m → MessageAgrees t name m
 nothing_agrees t name _ (IsProbe epoch) = tt
@@ -119,7 +119,7 @@ states_agree t version c rows f o s =
 
 -- the case of a vote, and of an acknowledgement
 votes_ready : (tests : Tests) (setup : Deployment) (t u : Moment) (node : NodeRecord) (input : Input) (out : Out NodeRecord) (from shard epoch : ℕ) (entry : Preparation) (case : Case) (part : Part) (view : Membership)
-    → Acting tests setup t u node input out → input ≡ inputs.Deliver from (PrepareAck shard epoch entry) → OpenPart node.coordinator entry.txn shard case part view → view.epoch ≡ epoch
+    → IsActing tests setup t u node input out → input ≡ inputs.Deliver from (PrepareAck shard epoch entry) → OpenPart node.coordinator entry.txn shard case part view → view.epoch ≡ epoch
     → IsReady setup t u node entry.txn (with_part case (voted part entry))
 votes_ready tests setup t u node input out from shard epoch entry case part view a e o at = record {
   fits = voted_case tests setup t u node input out from shard epoch entry case part view a e o;
@@ -127,14 +127,14 @@ votes_ready tests setup t u node input out from shard epoch entry case part view
 }
 
 acknowledges_ready : (tests : Tests) (setup : Deployment) (t u : Moment) (node : NodeRecord) (input : Input) (out : Out NodeRecord) (from shard epoch slot : ℕ) (txn : TxId) (case : Case) (part : Part) (view : Membership)
-    → Acting tests setup t u node input out → input ≡ inputs.Deliver from (AcceptAck shard epoch slot txn) → OpenPart node.coordinator txn shard case part view → view.epoch ≡ epoch → voted_at part.entry slot ≡ true
+    → IsActing tests setup t u node input out → input ≡ inputs.Deliver from (AcceptAck shard epoch slot txn) → OpenPart node.coordinator txn shard case part view → view.epoch ≡ epoch → voted_at part.entry slot ≡ true
     → IsReady setup t u node txn (with_part case (acknowledged part from))
 acknowledges_ready tests setup t u node input out from shard epoch slot txn case part view a e o at voted = record {
   fits = acknowledged_case tests setup t u node input out from shard txn case part view a o;
   holds = acknowledges_hold tests setup t u node input out from shard epoch slot txn case part view a e o at voted;
 }
 
-pub acting_agrees : (tests : Tests) (version : ℕ) (setup : Deployment) (t u : Moment) (node : NodeRecord) (input : Input) (out : Out NodeRecord) → Acting tests setup t u node input out → Effect tests version node input out → SendsAgree u out.sends
+pub acting_agrees : (tests : Tests) (version : ℕ) (setup : Deployment) (t u : Moment) (node : NodeRecord) (input : Input) (out : Out NodeRecord) → IsActing tests setup t u node input out → Effect tests version node input out → SendsAgree u out.sends
 acting_agrees tests version setup t u node _ _ a (Rests input answer notices n) = notices_agree u notices n
 acting_agrees tests version setup t u node _ _ a (Certifies payload l case e) = case_agrees u node.coordinator.views (next_txn node) case
 acting_agrees tests version setup t u node _ _ a (TakesOver txn row of unmarked closed may case e) = case_agrees u node.coordinator.views txn case
@@ -159,7 +159,7 @@ acting_agrees tests version setup t u node _ _ a (Promises from epoch l) = agree
 acting_agrees tests version setup t u node _ _ a (Chooses from state shard want epoch probed low p q r) = agree_one u _ tt
 acting_agrees tests version setup t u node _ _ a _ = λ o s. absurd s
 
-pub acting_decided : (tests : Tests) (version : ℕ) (setup : Deployment) (t u : Moment) (node : NodeRecord) (input : Input) (out : Out NodeRecord) (txn : TxId) (decision : Decision) → Acting tests setup t u node input out → Effect tests version node input out
+pub acting_decided : (tests : Tests) (version : ℕ) (setup : Deployment) (t u : Moment) (node : NodeRecord) (input : Input) (out : Out NodeRecord) (txn : TxId) (decision : Decision) → IsActing tests setup t u node input out → Effect tests version node input out
     → StandsIn (notes.Decide txn decision) out.notes → IsDecidedBy setup.shards u txn decision
 acting_decided tests version setup t u node _ _ x d a (Votes from shard epoch entry case part view o at lead fits out g) s =
     goes_on_decided tests setup t u node _ _ entry.txn (with_part case (voted part entry)) (accept (first_entry part.entry entry) part.acks (Some view)) out x d a (votes_ready tests setup t u node _ _ from shard epoch entry case part view a refl o at) g s

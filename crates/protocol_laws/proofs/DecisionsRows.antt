@@ -22,11 +22,11 @@ use Rattle.protocol.proofs.Lists.{find-StandsIn}
 use Rattle.protocol_laws.specs.Effect.{Effect}
 use Rattle.protocol_laws.specs.Turn.{Onward}
 use Rattle.protocol_laws.proofs.DecisionsLast.{is_behind-on, is_behind-later, row_holds-on, row_holds-later}
-use Rattle.protocol_laws.proofs.TransactionsActing.{Acting}
 use Rattle.protocol_laws.proofs.TransactionsRows.{RowCame, row_came}
 use Rattle.protocol_laws.proofs.TransactionsRows.RowCame.{WasThere, WasMarked, WasAppended, WasAccepted, WasWhole, WasInPiece, WasKept}
 use Rattle.protocol_laws.proofs.SameTxn.{same_txn-eq}
 use Rattle.protocol_laws.proofs.Ascending.{ascending-one}
+use Rattle.protocol_laws.proofs.TransactionsActing.{IsActing}
 
 -- the row of a slot that holds a transaction is of it
 at_slot_is : (rows : List Row) (slot : ℕ) (txn : TxId) (old : Row) → AreRows rows → has_at rows slot txn ≡ true → StandsIn old rows → old.entry.slot ≡ slot → old.entry.txn ≡ txn
@@ -67,7 +67,7 @@ state_holds t u node c r state o shard epoch k =
     subst (λ s. RowHolds u s state r) shard (subst (λ e. RowHolds u c.shard e r) epoch (row_holds-on t u c.shard c.epoch r o k))
 
 -- a row's marks hold where it comes from
-came_holds : (tests : Tests) (setup : Deployment) (t u : Moment) (node : NodeRecord) (input : Input) (out : Out NodeRecord) (r : Row) → Acting tests setup t u node input out → RowCame tests node out.kept r input → RowHolds u node.shard out.kept.state r
+came_holds : (tests : Tests) (setup : Deployment) (t u : Moment) (node : NodeRecord) (input : Input) (out : Out NodeRecord) (r : Row) → IsActing tests setup t u node input out → RowCame tests node out.kept r input → RowHolds u node.shard out.kept.state r
 came_holds tests setup t u node _ out r a (WasThere input s l) = row_holds-later u node.shard node.state out.kept.state r l (row_holds-on t u node.shard node.state r a.goes.onward (a.before.decisions.rows node r a.is s))
 came_holds tests setup t u node _ out r a (WasMarked from epoch slot txn commit old low state has s at is) =
     let told : IsBehind t node.shard epoch slot txn commit = a.before.decisions.told from epoch slot txn commit node a.is (a.received from (DecisionFor epoch slot txn commit) refl) in
@@ -85,6 +85,6 @@ came_holds tests setup t u node _ out r a (WasKept input g piece is k q shard ep
     let kept : (from : ℕ) × WasSent t from node.name (StatePiece g.config piece.number g.pieces piece.rows) = a.before.transfer.kept node g piece a.is is k in
     state_holds t u node g.config r out.kept.state a.goes.onward shard epoch (a.before.decisions.pieces kept.0 node.name piece.number g.pieces g.config piece.rows r kept.1 q)
 
-pub acting_rows_hold : (tests : Tests) (version : ℕ) (setup : Deployment) (t u : Moment) (node : NodeRecord) (input : Input) (out : Out NodeRecord) (r : Row) → Acting tests setup t u node input out → Effect tests version node input out
+pub acting_rows_hold : (tests : Tests) (version : ℕ) (setup : Deployment) (t u : Moment) (node : NodeRecord) (input : Input) (out : Out NodeRecord) (r : Row) → IsActing tests setup t u node input out → Effect tests version node input out
     → StandsIn r out.kept.rows → RowHolds u node.shard out.kept.state r
 acting_rows_hold tests version setup t u node input out r a e s = came_holds tests setup t u node input out r a (row_came tests version node input out r (a.before.promises.roles node a.is) e s)

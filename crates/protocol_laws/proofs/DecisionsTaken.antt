@@ -24,11 +24,11 @@ use Rattle.protocol_laws.specs.Effect.{GoesOn}
 use Rattle.protocol_laws.specs.Effect.GoesOn.{Waiting, Decides}
 use Rattle.protocol_laws.proofs.Lasting.{accepted-on}
 use Rattle.protocol_laws.proofs.DecisionsAccepted.{IsAcceptedPart, complete_part}
-use Rattle.protocol_laws.proofs.TransactionsActing.{Acting}
 use Rattle.protocol_laws.proofs.Standing.{IsMapped, map-StandsIn, IsPiece, flat_map-StandsIn}
 use Rattle.protocol_laws.proofs.TransactionsPlaces.{view_is, IsView}
 use Rattle.protocol_laws.proofs.TransferConfigs.{member_shard}
 use Rattle.protocol.specs.Invariant.Entries.{CaseHolds}
+use Rattle.protocol_laws.proofs.TransactionsActing.{IsActing}
 
 -- what a message to a node tells of decisions agrees with decisions that were taken
 abbrev pub MessageAgrees : Moment → ℕ → Message → Type 0
@@ -67,13 +67,13 @@ pub record IsReady (setup : Deployment) (t u : Moment) (node : NodeRecord) (txn 
   pub holds : CaseHolds t node.coordinator.views txn case
 
 -- each part of a complete case has its accepted entry
-ready_part : (tests : Tests) (setup : Deployment) (t u : Moment) (node : NodeRecord) (input : Input) (out : Out NodeRecord) (txn : TxId) (case : Case) (p : Part) → Acting tests setup t u node input out → IsReady setup t u node txn case
+ready_part : (tests : Tests) (setup : Deployment) (t u : Moment) (node : NodeRecord) (input : Input) (out : Out NodeRecord) (txn : TxId) (case : Case) (p : Part) → IsActing tests setup t u node input out → IsReady setup t u node txn case
     → is_complete node.coordinator.views case ≡ true → StandsIn p case.parts → IsAcceptedPart t node.coordinator.views txn p
 ready_part tests setup t u node input out txn case p a r complete s =
     complete_part tests setup t node.coordinator.views txn p a.before (λ v e. (view_is setup t node p.shard v a.before.configurations a.is e).stored) (r.holds.parts p s)
     (all-StandsIn (λ (q : Part). is_complete_by q.entry q.acks (view_of node.coordinator.views q.shard)) case.parts p complete s)
 
-pub ready_decided : (tests : Tests) (setup : Deployment) (t u : Moment) (node : NodeRecord) (input : Input) (out : Out NodeRecord) (txn : TxId) (case : Case) → Acting tests setup t u node input out → IsReady setup t u node txn case
+pub ready_decided : (tests : Tests) (setup : Deployment) (t u : Moment) (node : NodeRecord) (input : Input) (out : Out NodeRecord) (txn : TxId) (case : Case) → IsActing tests setup t u node input out → IsReady setup t u node txn case
     → is_complete node.coordinator.views case ≡ true → IsDecidedBy setup.shards u txn (decision_of case.parts)
 ready_decided tests setup t u node input out txn case a r complete = record {
   payload = r.fits.payload;
@@ -88,7 +88,7 @@ ready_decided tests setup t u node input out txn case a r complete = record {
 }
 
 -- what the members of a part's view are told
-told_members : (tests : Tests) (setup : Deployment) (t u : Moment) (node : NodeRecord) (input : Input) (out : Out NodeRecord) (txn : TxId) (decision : Decision) (p : Part) → Acting tests setup t u node input out → IsAcceptedPart t node.coordinator.views txn p
+told_members : (tests : Tests) (setup : Deployment) (t u : Moment) (node : NodeRecord) (input : Input) (out : Out NodeRecord) (txn : TxId) (decision : Decision) (p : Part) → IsActing tests setup t u node input out → IsAcceptedPart t node.coordinator.views txn p
     → WasNoted u (notes.Decide txn decision) → SendsAgree u (tell_members txn (commits decision) p.entry (view_of node.coordinator.views p.shard))
 told_members tests setup t u node input out txn decision p a q noted =
     subst (λ x. SendsAgree u (tell_members txn (commits decision) x (view_of node.coordinator.views p.shard))) (sym q.voted)
@@ -112,7 +112,7 @@ told_members tests setup t u node input out txn decision p a q noted =
           of_txn = q.of_txn;
         })
 
-pub ready_told : (tests : Tests) (setup : Deployment) (t u : Moment) (node : NodeRecord) (input : Input) (out : Out NodeRecord) (txn : TxId) (case : Case) → Acting tests setup t u node input out → IsReady setup t u node txn case
+pub ready_told : (tests : Tests) (setup : Deployment) (t u : Moment) (node : NodeRecord) (input : Input) (out : Out NodeRecord) (txn : TxId) (case : Case) → IsActing tests setup t u node input out → IsReady setup t u node txn case
     → is_complete node.coordinator.views case ≡ true → WasNoted u (notes.Decide txn (decision_of case.parts)) → SendsAgree u (tell_decision node.coordinator.views txn case.parts (decision_of case.parts))
 unfolding tell_decision
 ready_told tests setup t u node input out txn case a r complete noted =
@@ -127,7 +127,7 @@ ready_told tests setup t u node input out txn case a r complete noted =
 
 -- what a case that goes on notes is decided
 pub goes_on_decided : (tests : Tests) (setup : Deployment) (t u : Moment) (node : NodeRecord) (input : Input) (new : Out NodeRecord) (txn : TxId) (case : Case) (sends : List Outgoing) (out : Out Coordinator) (other : TxId) (decision : Decision)
-    → Acting tests setup t u node input new → IsReady setup t u node txn case → GoesOn node.coordinator txn case sends out → StandsIn (notes.Decide other decision) out.notes → IsDecidedBy setup.shards u other decision
+    → IsActing tests setup t u node input new → IsReady setup t u node txn case → GoesOn node.coordinator txn case sends out → StandsIn (notes.Decide other decision) out.notes → IsDecidedBy setup.shards u other decision
 goes_on_decided tests setup t u node input new txn case sends _ other decision a r (Waiting h) s = absurd s
 goes_on_decided tests setup t u node input new txn case sends _ other decision a r (Decides h) (inl e) =
     let x : txn ≡ other = cc e in
@@ -137,7 +137,7 @@ goes_on_decided tests setup t u node input new txn case sends _ other decision a
 
 -- what a case that goes on tells agrees
 pub goes_on_told : (tests : Tests) (setup : Deployment) (t u : Moment) (node : NodeRecord) (input : Input) (new : Out NodeRecord) (txn : TxId) (case : Case) (sends : List Outgoing) (out : Out Coordinator)
-    → Acting tests setup t u node input new → IsReady setup t u node txn case → GoesOn node.coordinator txn case sends out → ((note : Note) → StandsIn note out.notes → WasNoted u note) → SendsAgree u sends → SendsAgree u out.sends
+    → IsActing tests setup t u node input new → IsReady setup t u node txn case → GoesOn node.coordinator txn case sends out → ((note : Note) → StandsIn note out.notes → WasNoted u note) → SendsAgree u sends → SendsAgree u out.sends
 goes_on_told tests setup t u node input new txn case sends _ a r (Waiting h) noted k = k
 goes_on_told tests setup t u node input new txn case sends _ a r (Decides h) noted k =
     agree_both u sends (tell_decision node.coordinator.views txn case.parts (decision_of case.parts)) k

@@ -27,7 +27,7 @@ use Rattle.protocol_laws.proofs.TransactionsLists.{lookup-StandsIn}
 use Rattle.protocol_laws.proofs.Standing.{StandsIn-left, StandsIn-right, filter-StandsIn}
 use Rattle.protocol_laws.proofs.Stored.{one_config, stored-some}
 use Rattle.protocol_laws.proofs.TransferConfigs.{member_shard, follower_member}
-use Rattle.protocol_laws.proofs.TransferEvents.{Acting, effect_name}
+use Rattle.protocol_laws.proofs.Came.{Acting, effect_name}
 use Rattle.protocol_laws.proofs.TransferHeld.{leads_it}
 use Rattle.protocol_laws.proofs.TransferSending.{Sending, VotesNow, HasEntry}
 use Rattle.protocol_laws.proofs.TransferSending.Sending.{Says, Answers, AsksVoted, AsksAgain, Holds}

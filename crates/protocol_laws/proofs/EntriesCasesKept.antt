@@ -32,7 +32,7 @@ use Rattle.protocol_laws.proofs.EntriesCases.{CasesHold, cases-on, new_case-hold
 use Rattle.protocol_laws.proofs.EntriesKeyed.{keys, lookup-none-StandsIn}
 use Rattle.protocol_laws.proofs.TransactionsLists.{lookup-StandsIn}
 use Rattle.protocol_laws.proofs.Standing.{map-StandsIn, IsMapped}
-use Rattle.protocol_laws.proofs.TransferEvents.{node_back, Acting}
+use Rattle.protocol_laws.proofs.Came.{node_back, Acting}
 use Rattle.protocol_laws.proofs.TransferSending.{VotesNow}
 
 -- the part that an answer is about, and its view

@@ -28,7 +28,7 @@ use Rattle.protocol_laws.proofs.After.{put_node-back}
 use Rattle.protocol_laws.proofs.AppendedBy.{AsksWithout, effect_appends, one_more}
 use Rattle.protocol_laws.proofs.Numbered.{AreNumbered, numbered-one}
 use Rattle.protocol_laws.proofs.SameTxn.{same_txn-self}
-use Rattle.protocol_laws.proofs.TransferEvents.{effect_name}
+use Rattle.protocol_laws.proofs.Came.{effect_name}
 
 -- a leader of the shard that held no row of the transaction before, and has one more without payload after
 pub record FoundBetween (before after : World) (txn : TxId) (shard : ℕ) : Type 0 where

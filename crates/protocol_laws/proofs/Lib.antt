@@ -58,14 +58,13 @@ pub mod ProbeAnswersKept
 pub mod ChoiceOn
 pub mod ChoiceStage
 pub mod ChoiceKept
-pub mod TransferEvents
+pub mod Came
 pub mod TransferConfigs
 pub mod Ascending
 pub mod TransferPieces
 pub mod TransactionsLists
 pub mod TransactionsLast
 pub mod TransactionsPlaces
-pub mod TransactionsCame
 pub mod TransactionsNotes
 pub mod TransactionsRows
 pub mod TransactionsReceived
@@ -125,3 +124,5 @@ pub mod ToldDecisions
 pub mod ToldAt
 pub mod SameTxn
 pub mod CaseParts
+pub mod ServiceSays
+pub mod Noted

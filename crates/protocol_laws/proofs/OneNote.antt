@@ -17,7 +17,7 @@ use Rattle.protocol.specs.Versions.{read_of, value_or_empty}
 use Rattle.protocol.specs.World.{World, Happening}
 use Rattle.protocol_laws.specs.Change.{Change, Passes, Stops, Acts, AtService, Serves, HoldsBack, Tells, Stores}
 use Rattle.protocol_laws.specs.Effect.{GoesOn, Waiting, Decides, Effect, Rests, Certifies, TakesOver, Nudges, Moves, Lowers, Reads, Asks, AnswersAgain, Appends, Votes, Acknowledges, Changes, Learns, Keeps, Accepts, Marks, Promises, Chooses, FindsLow, Leads, Follows, Gathers, FollowsPieces}
-use Rattle.protocol_laws.proofs.TransactionsCame.{serves_no_notes}
+use Rattle.protocol_laws.proofs.ServiceSays.{serves_no_notes}
 
 -- nothing, or one note
 abbrev pub AtMostOne : List Note → Type 0

@@ -20,10 +20,10 @@ use Rattle.protocol_laws.proofs.OnwardOf.{onward_of}
 use Rattle.protocol_laws.proofs.ConfigurationsSends.{is_plain}
 use Rattle.protocol_laws.proofs.ConfigurationsSaid.{Says}
 use Rattle.protocol_laws.proofs.ConfigurationsSaid.Says.{Plainly, Answers, Tells, Proposes}
-use Rattle.protocol_laws.proofs.ConfigurationsStored.{ServiceSays}
-use Rattle.protocol_laws.proofs.ConfigurationsStored.ServiceSays.{SaysPlainly, TellsStored}
+use Rattle.protocol_laws.proofs.ServiceSays.ServiceSays.{TellsStored, TellsChange, Refuses}
 use Rattle.protocol_laws.proofs.ProbeAnswersSent.{SentHow, sent_how}
 use Rattle.protocol_laws.proofs.ProbeAnswersSent.SentHow.{ByNode, ByService}
+use Rattle.protocol_laws.proofs.ServiceSays.{ServiceSays}
 
 -- a fenced node's state epoch is below its promise, unless it promised nothing
 fenced-low : (node : NodeRecord) (role : Role) → FitsRole node role → role ≡ Fenced → (node.state < node.promised) ⊎ (node.promised ≡ 0)
@@ -91,8 +91,9 @@ how-answers t u from epoch state p (ByNode node kept input n k f s w) = said-ans
 how-answers t u from epoch state p (ByService w) = absurd (none w refl)
   where
     none : {m : Message} → ServiceSays u.now.configs m → m ≡ ProbeAck epoch state → ⊥
-    none (SaysPlainly m h) e = let x : is_plain (ProbeAck epoch state) ≡ true = subst (λ v. is_plain v ≡ true) e h in cc x
-    none (TellsStored m c k h d) e = let x : told_config (ProbeAck epoch state) ≡ Some c = subst (λ v. told_config v ≡ Some c) e h in cc x
+    none (TellsStored c k) e = cc e
+    none (TellsChange c k) e = cc e
+    none (Refuses kind why mark) e = cc e
 
 -- One event keeps the answers to probes.
 pub answers_kept : (tests : Tests) (setup : Deployment) (t : Moment) (event : Event) (h : Happening) → Turn tests setup t event h → ConfigurationsHold setup (goes_to t h.after) → PromisesHold (goes_to t h.after) → AnswersHold (goes_to t h.after)

@@ -32,8 +32,8 @@ use Rattle.protocol_laws.specs.Turn.{Turn}
 use Rattle.protocol_laws.proofs.Fronts.{Splits, splits}
 use Rattle.protocol_laws.proofs.Fronts.Splits.{InFirst, InSecond}
 use Rattle.protocol_laws.proofs.ReadingsLast.{is_reading, read_was_written}
-use Rattle.protocol_laws.proofs.TransactionsCame.{HistoryCame, history_came}
-use Rattle.protocol_laws.proofs.TransactionsCame.HistoryCame.{NothingNoted, NodeNotes}
+use Rattle.protocol_laws.proofs.Noted.HistoryCame.{NothingNoted, NodeNotes}
+use Rattle.protocol_laws.proofs.Noted.{HistoryCame, history_came}
 
 no_note : (front : List Note) (x : Note) (after : List Note) → [] ≡ front ++ (x ∷ after) → ⊥
 no_note [] x after e = cc e
@@ -93,10 +93,10 @@ pub readings_kept : (tests : Tests) (setup : Deployment) (t : Moment) (event : E
     → AnswersHold (goes_to t h.after) → ChoiceHolds (goes_to t h.after) → TransferHolds (goes_to t h.after) → EntriesHold tests (goes_to t h.after) → TransactionsHold setup (goes_to t h.after) → DecisionsHold setup (goes_to t h.after)
     → ReadingsHold (goes_to t h.after)
 readings_kept tests setup t event h turn configurations promises answers choice transfer entries transactions decisions = record {
-  each = λ earlier later name version value e. each earlier later name version value e (history_came tests setup.version t.now event h turn.change);
+  each = λ earlier later name version value e. each earlier later name version value e (history_came tests setup t event h turn);
 }
   where
-    each : (earlier later : List Note) (name : List ℕ) (version : ℕ) (value : List ℕ) → h.after.history ≡ earlier ++ (notes.ReadValue name version value ∷ later) → HistoryCame tests setup.version t.now event h → Tells earlier name version value
+    each : (earlier later : List Note) (name : List ℕ) (version : ℕ) (value : List ℕ) → h.after.history ≡ earlier ++ (notes.ReadValue name version value ∷ later) → HistoryCame tests setup t event h → Tells earlier name version value
     each earlier later name version value e (NothingNoted same) = turn.before.readings.each earlier later name version value (sym same ∙ e)
     each earlier later name version value e (NodeNotes a grown) = go (splits t.now.history a.out.notes earlier (notes.ReadValue name version value) later (sym grown ∙ e))
       where
@@ -107,4 +107,4 @@ readings_kept tests setup t event h turn configurations promises answers choice 
             let now : earlier ≡ t.now.history = before ∙ ap (λ ns. t.now.history ++ ns) r.first ∙ append-nil t.now.history in
             subst (λ h. Tells h name version value) (sym now)
             (subst (λ v. Tells t.now.history name v value) (sym r.of_version)
-            (subst (λ x. Tells t.now.history name (read_of a.node.rows name).version x) (sym r.of_value) (read_tells tests setup t a.node name turn.before a.there)))
+            (subst (λ x. Tells t.now.history name (read_of a.node.rows name).version x) (sym r.of_value) (read_tells tests setup t a.node name turn.before a.is)))

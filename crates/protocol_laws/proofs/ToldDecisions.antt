@@ -33,6 +33,8 @@ use Rattle.protocol_laws.specs.Change.{Change, Passes, Stops, Acts, AtService, S
 use Rattle.protocol_laws.specs.Effect.{AreNotices, Silent, Notice, Sees, Replaces, Hears, Waits, ProbesLast, ProbesLower, IsDone, GoesOn, Waiting, Decides, Effect, Rests, Certifies, TakesOver, Nudges, Moves, Lowers, Reads, Asks, AnswersAgain, Appends, Votes, Acknowledges, Changes, Learns, Accepts, Marks, Promises, Chooses, FindsLow, Leads, Follows, Gathers, FollowsPieces}
 use Rattle.protocol_laws.proofs.After.{IsNew, sent-back}
 use Rattle.protocol_laws.proofs.Standing.{StandsIn-left, StandsIn-right}
+use Rattle.protocol_laws.proofs.ServiceSays.{ServiceSays, service_says}
+use Rattle.protocol_laws.proofs.ServiceSays.ServiceSays.{TellsStored, TellsChange, Refuses}
 
 -- a message, where it is a DECISION, tells one that is noted
 abbrev pub TellsNoted : List Note → Message → Type 0
@@ -184,11 +186,10 @@ effect-tells tests version node i o (Chooses from state shard want epoch probed 
 effect-tells tests version node i o (Leads from config a b c d) = flat-tell [] (state_to version config node.rows) (followers config) (λ name. state-tells [] version config node.rows name)
 effect-tells tests version node i o _ = λ q s. absurd s
 
-serves-tell : (nodes : ℕ) (configs : List Membership) (from : ℕ) (message : Message) (out : Out (List Membership)) → Serves nodes configs from message out → AllTell out.notes out.sends
-unfolding tell_nodes
-serves-tell nodes configs from m o (HoldsBack message answer notices h) = notices-tell [] notices h
-serves-tell nodes configs from m o (Tells message c h) = one-tells [] _ tt
-serves-tell nodes configs from m o (Stores c last a b d) = both-tell [] (to from (Stored c) ∷ []) _ (one-tells [] _ tt) (map-tells [] (λ node. to node (ConfigChange c)) (range_with_len 1 nodes) (λ node. tt))
+served-tells : (ns : List Note) (kept : List Membership) (m : Message) → ServiceSays kept m → TellsNoted ns m
+served-tells ns kept _ (TellsStored c k) = tt
+served-tells ns kept _ (TellsChange c k) = tt
+served-tells ns kept _ (Refuses kind why mark) = tt
 
 tells-more : (ns ms : List Note) (m : Message) → ((n : Note) → StandsIn n ns → StandsIn n ms) → TellsNoted ns m → TellsNoted ms m
 tells-more ns ms (Prepare epoch txn shards part) h t = tt
@@ -224,4 +225,4 @@ pub messages-tell : (tests : Tests) (version : ℕ) (w : World) (event : Event) 
 messages-tell tests version w e h (Passes event result a) m = m
 messages-tell tests version w e h (Stops name) m = m
 messages-tell tests version w e h (Acts event name node input out comes found s named up effect) m = grown-tell w.messages w.history name out.sends out.notes m (effect-tells tests version node input out effect)
-messages-tell tests version w e h (AtService number from message sent out is found s serves) m = grown-tell w.messages w.history 0 out.sends out.notes m (serves-tell (length w.nodes) w.configs from message out serves)
+messages-tell tests version w e h (AtService number from message sent out is found s serves) m = grown-tell w.messages w.history 0 out.sends out.notes m (λ o k. served-tells out.notes out.kept o.message (service_says (length w.nodes) w.configs from message out serves o k))

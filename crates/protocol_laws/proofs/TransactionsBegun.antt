@@ -15,9 +15,8 @@ use Rattle.protocol.specs.World.{Happening}
 use Rattle.protocol.specs.Invariant.Time.{Moment, goes_to, StandsIn}
 use Rattle.protocol.specs.Invariant.Transactions.{IsBegun}
 use Rattle.protocol_laws.specs.Turn.{Turn}
-use Rattle.protocol_laws.proofs.TransactionsCame.{Acted, acted_back}
 use Rattle.protocol_laws.proofs.TransactionsNotes.{BeginsNext, begins_next}
-use Rattle.protocol_laws.proofs.TransferEvents.{effect_name}
+use Rattle.protocol_laws.proofs.Came.{effect_name, Acting, acted_back}
 use Rattle.protocol_laws.proofs.SameTxn.{same_txn-self, same_txn-eq}
 
 -- where no note begins a transaction
@@ -48,15 +47,15 @@ once_begun (n ∷ ns) txn payload k =
     ∙ once_begun ns txn payload (λ p s. k p (inr s))
 
 -- the transaction that a node begins has begun then
-pub begun_now : (tests : Tests) (setup : Deployment) (t : Moment) (event : Event) (h : Happening) → Turn tests setup t event h → (a : Acted tests setup.version t.now event h) → (payload : Accesses)
+pub begun_now : (tests : Tests) (setup : Deployment) (t : Moment) (event : Event) (h : Happening) → Turn tests setup t event h → (a : Acting tests setup t event h) → (payload : Accesses)
     → a.out.notes ≡ notes.Begin (next_txn a.node) payload ∷ [] → IsBegun (goes_to t h.after) (next_txn a.node) payload
 begun_now tests setup t event h turn a payload e =
     let history : h.after.history ≡ t.now.history ++ notes.Begin (next_txn a.node) payload ∷ [] = ap (λ (x : Happening). x.after.history) a.happens ∙ ap (λ ns. t.now.history ++ ns) e in
-    let fresh : NotBegun t.now.history (next_txn a.node) = λ p s. (let l : a.node.next < a.node.next = turn.before.transactions.numbers (next_txn a.node) p a.node s a.there refl in omega (arith, l)) in
+    let fresh : NotBegun t.now.history (next_txn a.node) = λ p s. (let l : a.node.next < a.node.next = turn.before.transactions.numbers (next_txn a.node) p a.node s a.is refl in omega (arith, l)) in
     record {
       first = subst (λ ns. payload_in ns (next_txn a.node) ≡ Some payload) (sym history) (first_begun t.now.history (next_txn a.node) payload fresh);
       once = subst (λ ns. length (filter (λ n. is_some (begins_with (next_txn a.node) n)) ns) ≡ 1) (sym history) (once_begun t.now.history (next_txn a.node) payload fresh);
-      given = λ node n q. given node q (acted_back tests setup.version t.now event h node a n);
+      given = λ node n q. given node q (acted_back tests setup t event h node a n);
     }
   where
     begins : BeginsNext a.node a.out.kept (next_txn a.node)

@@ -27,13 +27,13 @@ use Rattle.protocol_laws.specs.Effect.{Sees, OpenPart, GoesOn, Effect}
 use Rattle.protocol_laws.specs.Effect.Sees.{Replaces}
 use Rattle.protocol_laws.specs.Effect.GoesOn.{Waiting, Decides}
 use Rattle.protocol_laws.specs.Effect.Effect.{Certifies, TakesOver, Votes, Acknowledges, Changes, Learns}
-use Rattle.protocol_laws.proofs.TransactionsActing.{Acting}
 use Rattle.protocol_laws.proofs.TransactionsLast.{entry_fits-on, case_fits-on, is_begun-on}
 use Rattle.protocol_laws.proofs.Standing.{IsMapped, map-StandsIn}
 use Rattle.protocol_laws.proofs.TransactionsLists.{lookup-StandsIn, set_value-StandsIn, remove_entry-StandsIn}
 use Rattle.protocol_laws.proofs.TransactionsPlaces.{views_length}
 use Rattle.protocol_laws.proofs.SameTxn.{same_txn-eq}
 use Rattle.protocol_laws.proofs.CaseParts.{put-StandsIn, IsPartOf, part_is}
+use Rattle.protocol_laws.proofs.TransactionsActing.{IsActing}
 
 -- all cases of a coordinator fit
 abbrev pub CasesFit : ℕ → Moment → Coordinator → Type 0
@@ -84,7 +84,7 @@ acknowledged_fits n t txn case shard part from f e =
 nothing_voted : (shards : List ℕ) (p : Part) (entry : Preparation) → StandsIn p (map asked shards) → p.entry ≡ Some entry → ⊥
 nothing_voted shards p entry s e = let i : IsMapped asked shards p = map-StandsIn asked shards p s in let q : p.entry ≡ None = ap (λ (x : Part). x.entry) i.is in cc (q, e)
 
-pub certified_fits : (tests : Tests) (setup : Deployment) (t u : Moment) (node : NodeRecord) (input : Input) (out : Out NodeRecord) (payload : Accesses) → Acting tests setup t u node input out
+pub certified_fits : (tests : Tests) (setup : Deployment) (t u : Moment) (node : NodeRecord) (input : Input) (out : Out NodeRecord) (payload : Accesses) → IsActing tests setup t u node input out
     → out.notes ≡ notes.Begin (next_txn node) payload ∷ [] → CaseFits setup.shards u (next_txn node) (new_case (shards_of (length node.coordinator.views) payload) (Some payload))
 certified_fits tests setup t u node input out payload a e = record {
   payload = payload;
@@ -94,7 +94,7 @@ certified_fits tests setup t u node input out payload a e = record {
   voted = λ p entry s q. absurd (nothing_voted (shards_of (length node.coordinator.views) payload) p entry s q);
 }
 
-pub taken_fits : (tests : Tests) (setup : Deployment) (t u : Moment) (node : NodeRecord) (input : Input) (out : Out NodeRecord) (txn : TxId) (row : Row) → Acting tests setup t u node input out
+pub taken_fits : (tests : Tests) (setup : Deployment) (t u : Moment) (node : NodeRecord) (input : Input) (out : Out NodeRecord) (txn : TxId) (row : Row) → IsActing tests setup t u node input out
     → row_of node.rows txn ≡ Some row → WasTaken u txn → CaseFits setup.shards u txn (new_case row.entry.shards None)
 taken_fits tests setup t u node input out txn row a e taken =
     let stands : StandsIn row node.rows × (same_txn row.entry.txn txn ≡ true) = find-StandsIn (λ (r : Row). same_txn r.entry.txn txn) node.rows row e in
@@ -146,30 +146,30 @@ sees_fits n t c config _ _ k (Replaces h) = change_view_fits n t c config k
 sees_fits n t c config _ _ k (Sees.Keeps h) = k
 
 -- the cases that the node had fit still
-pub old_cases_fit : (tests : Tests) (setup : Deployment) (t u : Moment) (node : NodeRecord) (input : Input) (out : Out NodeRecord) → Acting tests setup t u node input out → CasesFit setup.shards u node.coordinator
+pub old_cases_fit : (tests : Tests) (setup : Deployment) (t u : Moment) (node : NodeRecord) (input : Input) (out : Out NodeRecord) → IsActing tests setup t u node input out → CasesFit setup.shards u node.coordinator
 old_cases_fit tests setup t u node input out a txn case s = case_fits-on setup.shards t u txn case a.goes (a.before.transactions.cases node txn case a.is s)
 
 -- a case that a shard's vote or a follower's acknowledgement came to
 pub voted_now : (tests : Tests) (setup : Deployment) (t u : Moment) (node : NodeRecord) (input : Input) (out : Out NodeRecord) (from shard epoch : ℕ) (entry : Preparation) (case : Case) (part : Part) (view : Membership)
-    → Acting tests setup t u node input out → input ≡ inputs.Deliver from (PrepareAck shard epoch entry) → OpenPart node.coordinator entry.txn shard case part view
+    → IsActing tests setup t u node input out → input ≡ inputs.Deliver from (PrepareAck shard epoch entry) → OpenPart node.coordinator entry.txn shard case part view
     → EntryFits setup.shards u shard (first_entry part.entry entry)
 voted_now tests setup t u node input out from shard epoch entry case part view a e o =
     voted_entry setup.shards u entry.txn case shard part entry (old_cases_fit tests setup t u node input out a entry.txn case (lookup-StandsIn entry.txn node.coordinator.cases case o.opened)) o.has
     (entry_fits-on setup.shards t u shard entry a.goes (a.before.transactions.messages from node (PrepareAck shard epoch entry) a.is (a.received from (PrepareAck shard epoch entry) e)))
 
 pub voted_case : (tests : Tests) (setup : Deployment) (t u : Moment) (node : NodeRecord) (input : Input) (out : Out NodeRecord) (from shard epoch : ℕ) (entry : Preparation) (case : Case) (part : Part) (view : Membership)
-    → Acting tests setup t u node input out → input ≡ inputs.Deliver from (PrepareAck shard epoch entry) → OpenPart node.coordinator entry.txn shard case part view
+    → IsActing tests setup t u node input out → input ≡ inputs.Deliver from (PrepareAck shard epoch entry) → OpenPart node.coordinator entry.txn shard case part view
     → CaseFits setup.shards u entry.txn (with_part case (voted part entry))
 voted_case tests setup t u node input out from shard epoch entry case part view a e o =
     voted_fits setup.shards u entry.txn case shard part entry (old_cases_fit tests setup t u node input out a entry.txn case (lookup-StandsIn entry.txn node.coordinator.cases case o.opened)) o.has
     (entry_fits-on setup.shards t u shard entry a.goes (a.before.transactions.messages from node (PrepareAck shard epoch entry) a.is (a.received from (PrepareAck shard epoch entry) e)))
 
 pub acknowledged_case : (tests : Tests) (setup : Deployment) (t u : Moment) (node : NodeRecord) (input : Input) (out : Out NodeRecord) (from shard : ℕ) (txn : TxId) (case : Case) (part : Part) (view : Membership)
-    → Acting tests setup t u node input out → OpenPart node.coordinator txn shard case part view → CaseFits setup.shards u txn (with_part case (acknowledged part from))
+    → IsActing tests setup t u node input out → OpenPart node.coordinator txn shard case part view → CaseFits setup.shards u txn (with_part case (acknowledged part from))
 acknowledged_case tests setup t u node input out from shard txn case part view a o =
     acknowledged_fits setup.shards u txn case shard part from (old_cases_fit tests setup t u node input out a txn case (lookup-StandsIn txn node.coordinator.cases case o.opened)) o.has
 
-pub acting_cases : (tests : Tests) (version : ℕ) (setup : Deployment) (t u : Moment) (node : NodeRecord) (input : Input) (out : Out NodeRecord) → Acting tests setup t u node input out → Effect tests version node input out
+pub acting_cases : (tests : Tests) (version : ℕ) (setup : Deployment) (t u : Moment) (node : NodeRecord) (input : Input) (out : Out NodeRecord) → IsActing tests setup t u node input out → Effect tests version node input out
     → CasesFit setup.shards u out.kept.coordinator
 acting_cases tests version setup t u node _ _ a (Certifies payload l case e) =
     begins_fit setup.shards u node.coordinator (next_txn node) case (old_cases_fit tests setup t u node _ _ a)

@@ -34,12 +34,12 @@ use Rattle.protocol_laws.specs.Effect.Sees.{Replaces}
 use Rattle.protocol_laws.specs.Effect.Hears.{Waits, ProbesLast, ProbesLower, IsDone}
 use Rattle.protocol_laws.specs.Effect.GoesOn.{Waiting, Decides}
 use Rattle.protocol_laws.specs.Effect.Effect.{Rests, Certifies, TakesOver, Nudges, Moves, Lowers, Asks, AnswersAgain, Appends, Votes, Acknowledges, Changes, Learns, Accepts, Promises, Chooses, Leads}
-use Rattle.protocol_laws.proofs.TransactionsActing.{Acting}
 use Rattle.protocol_laws.proofs.TransactionsCases.{acting_cases, old_cases_fit, voted_now, voted_case, acknowledged_case}
 use Rattle.protocol_laws.proofs.TransactionsLast.{has_begun-on}
 use Rattle.protocol_laws.proofs.Standing.{IsMapped, map-StandsIn, StandsIn-right, IsPiece, flat_map-StandsIn, take-StandsIn, drop-StandsIn}
 use Rattle.protocol_laws.proofs.TransactionsPlaces.{view_is, views_length, IsView}
 use Rattle.protocol_laws.proofs.TransactionsSends.{SendsFit, sends_both, sends_one, AreViews, case_sends, resends, accept_sends, leader_asked, decision_told}
+use Rattle.protocol_laws.proofs.TransactionsActing.{IsActing}
 
 -- a message that says nothing of transactions
 pub data SaysNothing : Message → Type 0 where
@@ -137,12 +137,12 @@ goes_on_sends setup t c txn case sends _ k f (Waiting h) = k
 goes_on_sends setup t c txn case sends _ k f (Decides h) = sends_both setup.shards t sends (tell_decision c.views txn case.parts (decision_of case.parts)) k (decision_told setup.shards t c.views txn case f)
 
 -- the views of a node are stored then
-views_are : (tests : Tests) (setup : Deployment) (t u : Moment) (node : NodeRecord) (input : Input) (out : Out NodeRecord) → Acting tests setup t u node input out → AreViews u node.coordinator.views
+views_are : (tests : Tests) (setup : Deployment) (t u : Moment) (node : NodeRecord) (input : Input) (out : Out NodeRecord) → IsActing tests setup t u node input out → AreViews u node.coordinator.views
 views_are tests setup t u node input out a shard v e =
     let i : IsView t shard v = view_is setup t node shard v a.before.configurations a.is e in record { stored = a.goes.onward.stored v i.stored; of_shard = i.of_shard }
 
 -- the configuration of a message that the node took is stored
-told_stored : (tests : Tests) (setup : Deployment) (t u : Moment) (node : NodeRecord) (input : Input) (out : Out NodeRecord) (from : ℕ) (c : Membership) → Acting tests setup t u node input out → input ≡ inputs.Deliver from (ConfigChange c) ⊎ (input ≡ inputs.Deliver from (Stored c)) → IsStored u c
+told_stored : (tests : Tests) (setup : Deployment) (t u : Moment) (node : NodeRecord) (input : Input) (out : Out NodeRecord) (from : ℕ) (c : Membership) → IsActing tests setup t u node input out → input ≡ inputs.Deliver from (ConfigChange c) ⊎ (input ≡ inputs.Deliver from (Stored c)) → IsStored u c
 told_stored tests setup t u node input out from c a (inl e) = a.goes.onward.stored c (a.before.configurations.in_messages from node.name (ConfigChange c) c (a.received from (ConfigChange c) e) refl)
 told_stored tests setup t u node input out from c a (inr e) = a.goes.onward.stored c (a.before.configurations.in_messages from node.name (Stored c) c (a.received from (Stored c) e) refl)
 
@@ -150,7 +150,7 @@ sees_sends : (setup : Deployment) (t : Moment) (c : Coordinator) (config : Membe
 sees_sends setup t c config _ _ k (Replaces h) = k
 sees_sends setup t c config _ _ k (Sees.Keeps h) = λ o s node i e. absurd s
 
-pub acting_sends : (tests : Tests) (version : ℕ) (setup : Deployment) (t u : Moment) (node : NodeRecord) (input : Input) (out : Out NodeRecord) → Acting tests setup t u node input out → Effect tests version node input out
+pub acting_sends : (tests : Tests) (version : ℕ) (setup : Deployment) (t u : Moment) (node : NodeRecord) (input : Input) (out : Out NodeRecord) → IsActing tests setup t u node input out → Effect tests version node input out
     → SendsFit setup.shards u out.sends
 acting_sends tests version setup t u node _ _ a (Rests input answer notices n) = notices_fit setup.shards u notices n
 acting_sends tests version setup t u node _ _ a (Certifies payload l case e) =

@@ -23,11 +23,11 @@ use Rattle.protocol_laws.specs.Effect.Effect.{Certifies, TakesOver, Reads, Votes
 use Rattle.protocol_laws.specs.Turn.{Turn, GrewFrom}
 use Rattle.protocol_laws.proofs.OnwardOf.{onward_of}
 use Rattle.protocol_laws.proofs.TransactionsLast.{Goes}
-use Rattle.protocol_laws.proofs.TransactionsCame.{Acted, HistoryCame, NoteCame, history_came, note_came, acted_back}
-use Rattle.protocol_laws.proofs.TransactionsCame.HistoryCame.{NothingNoted, NodeNotes}
-use Rattle.protocol_laws.proofs.TransactionsCame.NoteCame.{WasNotedBefore, NodeNoted}
-use Rattle.protocol_laws.proofs.TransferEvents.{effect_name}
+use Rattle.protocol_laws.proofs.Noted.HistoryCame.{NothingNoted, NodeNotes}
+use Rattle.protocol_laws.proofs.Noted.NoteCame.{WasNotedBefore, NodeNoted}
+use Rattle.protocol_laws.proofs.Came.{effect_name, Acting, acted_back}
 use Rattle.protocol_laws.proofs.SameTxn.{same_txn-eq}
+use Rattle.protocol_laws.proofs.Noted.{HistoryCame, history_came, NoteCame, note_came}
 
 -- a case that goes on notes no beginning
 pub goes_on-begins : (c : Coordinator) (txn : TxId) (case : Case) (sends : List Outgoing) (out : Out Coordinator) (begun : TxId) (payload : Accesses) → GoesOn c txn case sends out
@@ -64,48 +64,48 @@ count_more p (n ∷ ns) more k = go (p n) (count_more p ns more k)
     go false e = e
 
 -- what a node notes begins no transaction that had begun
-begins_none : (tests : Tests) (version : ℕ) (t : Moment) (event : Event) (h : Happening) (txn : TxId) (payload : Accesses) (note : Note) → IsBegun t txn payload → (a : Acted tests version t.now event h)
+begins_none : (tests : Tests) (setup : Deployment) (t : Moment) (event : Event) (h : Happening) (txn : TxId) (payload : Accesses) (note : Note) → IsBegun t txn payload → (a : Acting tests setup t event h)
     → StandsIn note a.out.notes → is_some (begins_with txn note) ≡ false
-begins_none tests version t event h txn payload (notes.Begin other p) b a s = go (same_txn other txn) refl
+begins_none tests setup t event h txn payload (notes.Begin other p) b a s = go (same_txn other txn) refl
   where
     go : (v : Bool) → same_txn other txn ≡ v → is_some (cond v (Some p) None) ≡ false
     go true e =
-        let i : BeginsNext a.node a.out.kept other = begins_next tests version a.node a.input a.out other p a.effect s in
+        let i : BeginsNext a.node a.out.kept other = begins_next tests setup.version a.node a.input a.out other p a.effect s in
         let same : txn ≡ next_txn a.node = sym (same_txn-eq other txn e) ∙ i.is in
         let home : a.node.name ≡ txn.home = ap (λ x. x.home) (sym same) in
         let seq : txn.seq ≡ a.node.next = ap (λ x. x.seq) same in
-        absurd (omega (arith, b.given a.node a.there home, seq))
+        absurd (omega (arith, b.given a.node a.is home, seq))
     go false e = refl
-begins_none tests version t event h txn payload (notes.Take other) b a s = refl
-begins_none tests version t event h txn payload (notes.ReadValue name v value) b a s = refl
-begins_none tests version t event h txn payload (notes.Decide other d) b a s = refl
+begins_none tests setup t event h txn payload (notes.Take other) b a s = refl
+begins_none tests setup t event h txn payload (notes.ReadValue name v value) b a s = refl
+begins_none tests setup t event h txn payload (notes.Decide other d) b a s = refl
 
 -- one event takes nothing away, and what had begun does not begin again
 pub goes_of : (tests : Tests) (setup : Deployment) (t : Moment) (event : Event) (h : Happening) → Turn tests setup t event h → Goes t (goes_to t h.after)
 goes_of tests setup t event h turn = record {
   onward = onward_of tests setup t event h turn;
-  once = λ txn payload b. again txn payload b (history_came tests setup.version t.now event h turn.change);
+  once = λ txn payload b. again txn payload b (history_came tests setup t event h turn);
 }
   where
-    again : (txn : TxId) (payload : Accesses) → IsBegun t txn payload → HistoryCame tests setup.version t.now event h → length (filter (λ n. is_some (begins_with txn n)) h.after.history) ≡ 1
+    again : (txn : TxId) (payload : Accesses) → IsBegun t txn payload → HistoryCame tests setup t event h → length (filter (λ n. is_some (begins_with txn n)) h.after.history) ≡ 1
     again txn payload b (NothingNoted e) = rw e b.once
-    again txn payload b (NodeNotes a e) = rw e (count_more (λ n. is_some (begins_with txn n)) t.now.history a.out.notes (λ n s. begins_none tests setup.version t event h txn payload n b a s) ∙ b.once)
+    again txn payload b (NodeNotes a e) = rw e (count_more (λ n. is_some (begins_with txn n)) t.now.history a.out.notes (λ n s. begins_none tests setup t event h txn payload n b a s) ∙ b.once)
 
 -- each transaction that began has a number that its home gave
 pub numbers_kept : (tests : Tests) (setup : Deployment) (t : Moment) (event : Event) (h : Happening) → Turn tests setup t event h
     → (txn : TxId) (payload : Accesses) (node : NodeRecord) → WasNoted (goes_to t h.after) (notes.Begin txn payload) → IsNode (goes_to t h.after) node → node.name ≡ txn.home → txn.seq < node.next
-numbers_kept tests setup t event h turn txn payload node noted n e = go (note_came tests setup.version t.now event h (notes.Begin txn payload) turn.change noted)
+numbers_kept tests setup t event h turn txn payload node noted n e = go (note_came tests setup t event h (notes.Begin txn payload) turn noted)
   where
     grown : GrewFrom t node
     grown = (onward_of tests setup t event h turn).back node n
 
-    go : NoteCame tests setup.version t.now event h (notes.Begin txn payload) → txn.seq < node.next
+    go : NoteCame tests setup t event h (notes.Begin txn payload) → txn.seq < node.next
     go (WasNotedBefore s) =
         let below : txn.seq < grown.old.next = turn.before.transactions.numbers txn payload grown.old s grown.is (sym grown.grows.name ∙ e) in
         let rise : grown.old.next ≤ node.next = grown.grows.next in omega (arith, below, rise)
-    go (NodeNoted a s) = fresh a (begins_next tests setup.version a.node a.input a.out txn payload a.effect s) (acted_back tests setup.version t.now event h node a n)
+    go (NodeNoted a s) = fresh a (begins_next tests setup.version a.node a.input a.out txn payload a.effect s) (acted_back tests setup t event h node a n)
       where
-        fresh : (a : Acted tests setup.version t.now event h) → BeginsNext a.node a.out.kept txn → (node ≡ a.out.kept) ⊎ (StandsIn node t.now.nodes × (node.name ≡ a.out.kept.name → ⊥)) → txn.seq < node.next
+        fresh : (a : Acting tests setup t event h) → BeginsNext a.node a.out.kept txn → (node ≡ a.out.kept) ⊎ (StandsIn node t.now.nodes × (node.name ≡ a.out.kept.name → ⊥)) → txn.seq < node.next
         fresh a i (inl q) =
             let seq : txn.seq ≡ a.node.next = ap (λ x. x.seq) i.is in
             let next : node.next ≡ a.node.next + 1 = ap (λ x. x.next) q ∙ i.next in

@@ -19,13 +19,12 @@ use Rattle.protocol.specs.Invariant.Time.{Moment, goes_to, StandsIn, WasSent}
 use Rattle.protocol.specs.Invariant.Transactions.{HasBegun, VoteNames, EntryFits, PrepareFits}
 use Rattle.protocol.proofs.Lists.{find-StandsIn}
 use Rattle.protocol_laws.specs.Turn.{Turn}
-use Rattle.protocol_laws.proofs.TransactionsCame.{Acted, acted_there}
 use Rattle.protocol_laws.proofs.TransactionsLast.{Goes, is_begun-on, is_part-on, entry_fits-on, has_begun-on}
 use Rattle.protocol_laws.proofs.TransactionsNotes.{goes_of}
 use Rattle.protocol_laws.proofs.TransactionsReceived.{received_fits}
 use Rattle.protocol_laws.proofs.TransactionsRows.{RowCame, row_came}
 use Rattle.protocol_laws.proofs.TransactionsRows.RowCame.{WasThere, WasMarked, WasAppended, WasAccepted, WasWhole, WasInPiece, WasKept}
-use Rattle.protocol_laws.proofs.TransferEvents.{effect_name}
+use Rattle.protocol_laws.proofs.Came.{effect_name, Acting}
 
 not_lost : (row : Option Row) → is_lost (vote_by row) ≡ false
 not_lost None = refl
@@ -57,7 +56,7 @@ lost_is_none tests rows None e = refl
 lost_is_none tests rows (Some p) e = absurd (let a : is_lost (vote_on tests rows p) ≡ true = ap is_lost e in let b : is_lost (vote_on tests rows p) ≡ false = vote_not_lost tests rows p in cc (a, b))
 
 -- what a leader appends fits, and if it has no payload, this is the event at which the shard found nothing
-new_entry_fits : (tests : Tests) (setup : Deployment) (t : Moment) (event : Event) (h : Happening) → Turn tests setup t event h → (a : Acted tests setup.version t.now event h)
+new_entry_fits : (tests : Tests) (setup : Deployment) (t : Moment) (event : Event) (h : Happening) → Turn tests setup t event h → (a : Acting tests setup t event h)
     → (txn : TxId) (shards : List ℕ) (part : Option Accesses) → is_leader a.node.role ≡ true → row_of a.node.rows txn ≡ None → a.out.kept.rows ≡ a.node.rows ++ undecided (new_entry tests a.node.rows txn shards part) ∷ [] → a.out.kept.role ≡ a.node.role
     → PrepareFits setup.shards t a.node.shard txn shards part → EntryFits setup.shards (goes_to t h.after) a.node.shard (new_entry tests a.node.rows txn shards part)
 new_entry_fits tests setup t event h turn a txn shards part lead none rows still f =
@@ -74,12 +73,12 @@ new_entry_fits tests setup t event h turn a txn shards part lead none rows still
         earlier = t.before;
         moments = refl;
         node = a.node;
-        there = a.there;
+        there = a.is;
         of_shard = refl;
         leads = lead;
         nothing = none;
         grown = a.out.kept;
-        grown_there = acted_there tests setup.version t.now event h a (effect_name tests setup.version a.node a.input a.out a.effect);
+        grown_there = a.there;
         grown_name = effect_name tests setup.version a.node a.input a.out a.effect;
         still = still;
         entry = new_entry tests a.node.rows txn shards part;
@@ -88,15 +87,15 @@ new_entry_fits tests setup t event h turn a txn shards part lead none rows still
         empty = lost_is_none tests a.node.rows part e;
       };
       vote = part_vote_names tests (goes_to t h.after) a.node.rows part (λ r s.
-          let e : EntryFits setup.shards t a.node.shard r.entry = turn.before.transactions.rows a.node r a.there s in
+          let e : EntryFits setup.shards t a.node.shard r.entry = turn.before.transactions.rows a.node r a.is s in
           has_begun-on t (goes_to t h.after) r.entry.txn g (e.payload, e.begun));
     }
 
 -- each row of a node that acted fits
-pub acted_rows_fit : (tests : Tests) (setup : Deployment) (t : Moment) (event : Event) (h : Happening) → Turn tests setup t event h → (a : Acted tests setup.version t.now event h) → (r : Row) → StandsIn r a.out.kept.rows
+pub acted_rows_fit : (tests : Tests) (setup : Deployment) (t : Moment) (event : Event) (h : Happening) → Turn tests setup t event h → (a : Acting tests setup t event h) → (r : Row) → StandsIn r a.out.kept.rows
     → EntryFits setup.shards (goes_to t h.after) a.node.shard r.entry
 acted_rows_fit tests setup t event h turn a r s =
-    go a.input refl (row_came tests setup.version a.node a.input a.out r (turn.before.promises.roles a.node a.there) a.effect s)
+    go a.input refl (row_came tests setup.version a.node a.input a.out r (turn.before.promises.roles a.node a.is) a.effect s)
   where
     u : Moment
     u = goes_to t h.after
@@ -108,9 +107,9 @@ acted_rows_fit tests setup t event h turn a r s =
     of_state c e f = on r.entry (subst (λ k. EntryFits setup.shards t k r.entry) e f)
 
     go : (input : Input) → a.input ≡ input → RowCame tests a.node a.out.kept r input → EntryFits setup.shards (goes_to t h.after) a.node.shard r.entry
-    go _ e (WasThere input k l) = on r.entry (turn.before.transactions.rows a.node r a.there k)
+    go _ e (WasThere input k l) = on r.entry (turn.before.transactions.rows a.node r a.is k)
     go _ e (WasMarked from epoch slot txn commit old l q has k at is) =
-        subst (λ (x : Row). EntryFits setup.shards (goes_to t h.after) a.node.shard x.entry) (sym is) (on old.entry (turn.before.transactions.rows a.node old a.there k))
+        subst (λ (x : Row). EntryFits setup.shards (goes_to t h.after) a.node.shard x.entry) (sym is) (on old.entry (turn.before.transactions.rows a.node old a.is k))
     go _ e (WasAppended from epoch txn shards part lead none rows still is) =
         subst (λ (x : Row). EntryFits setup.shards (goes_to t h.after) a.node.shard x.entry) (sym is)
         (new_entry_fits tests setup t event h turn a txn shards part lead none rows still (received_fits tests setup t event h from (Prepare epoch txn shards part) turn a e))
@@ -119,5 +118,5 @@ acted_rows_fit tests setup t event h turn a r s =
     go _ e (WasWhole from c rows k shard epoch) = of_state c shard (received_fits tests setup t event h from (NewState c rows) turn a e r k)
     go _ e (WasInPiece from c number pieces rows k shard epoch) = of_state c shard (received_fits tests setup t event h from (StatePiece c number pieces rows) turn a e r k)
     go _ e (WasKept input g piece is k q shard epoch) =
-        let kept : (from : ℕ) × WasSent t from a.node.name (StatePiece g.config piece.number g.pieces piece.rows) = turn.before.transfer.kept a.node g piece a.there is k in
-        of_state g.config shard (turn.before.transactions.messages kept.0 a.node (StatePiece g.config piece.number g.pieces piece.rows) a.there kept.1 r q)
+        let kept : (from : ℕ) × WasSent t from a.node.name (StatePiece g.config piece.number g.pieces piece.rows) = turn.before.transfer.kept a.node g piece a.is is k in
+        of_state g.config shard (turn.before.transactions.messages kept.0 a.node (StatePiece g.config piece.number g.pieces piece.rows) a.is kept.1 r q)

@@ -11,7 +11,7 @@ use Rattle.protocol.specs.Views.{epoch_of, followers}
 use Rattle.protocol.proofs.Lists.{all-StandsIn, among-StandsIn}
 use Rattle.protocol_laws.proofs.Numbered.{AreNumbered, numbered-index, numbered-below}
 use Rattle.protocol_laws.proofs.Standing.{StandsIn-filter, filter-StandsIn}
-use Rattle.protocol_laws.proofs.TransferEvents.{IsNext}
+use Rattle.protocol_laws.proofs.Came.{IsNext}
 use Rattle.protocol_laws.proofs.Stored.{stands_in_shard}
 
 -- no epoch is above the last one

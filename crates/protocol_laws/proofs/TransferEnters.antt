@@ -22,7 +22,7 @@ use Rattle.protocol_laws.specs.Effect.Effect.{Rests, Leads, Follows, FollowsPiec
 use Rattle.protocol_laws.specs.Turn.{Turn}
 use Rattle.protocol_laws.proofs.ConfigurationsInputs.{delivered}
 use Rattle.protocol_laws.proofs.Stored.{stored-some}
-use Rattle.protocol_laws.proofs.TransferEvents.{Acting, effect_name, effect_shard}
+use Rattle.protocol_laws.proofs.Came.{Acting, effect_name, effect_shard}
 use Rattle.protocol_laws.proofs.TransferGathering.{gathered, whole-Initial}
 
 -- a node becomes leader of a configuration

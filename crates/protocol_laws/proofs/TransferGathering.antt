@@ -23,7 +23,7 @@ use Rattle.protocol_laws.specs.Effect.Effect.{Rests, Promises, Follows, Gathers,
 use Rattle.protocol_laws.specs.Turn.{Turn, Onward}
 use Rattle.protocol_laws.proofs.ConfigurationsInputs.{delivered}
 use Rattle.protocol_laws.proofs.Lasting.{sent-on}
-use Rattle.protocol_laws.proofs.TransferEvents.{node_back, Acting, effect_name}
+use Rattle.protocol_laws.proofs.Came.{node_back, Acting, effect_name}
 use Rattle.protocol_laws.proofs.TransferPieces.{pieces-all, with_piece-ascends, with_piece-StandsIn, same_config-is}
 use Rattle.protocol_laws.proofs.PromisesNode.{gathered_from-is}
 

@@ -17,7 +17,7 @@ use Rattle.protocol_laws.proofs.Lasting.{IsIn, reached-back, is_in-now}
 use Rattle.protocol_laws.proofs.Numbered.{AreNumbered}
 use Rattle.protocol_laws.proofs.Stored.{one_config}
 use Rattle.protocol_laws.proofs.TransferConfigs.{member_shard, next_above}
-use Rattle.protocol_laws.proofs.TransferEvents.{node_back, config_back, IsNext, IsOfActing, effect_name}
+use Rattle.protocol_laws.proofs.Came.{node_back, config_back, IsNext, IsOfActing, effect_name}
 use Rattle.protocol_laws.proofs.TransferEnters.{enters, EntersAs, LeadsAs, Following}
 
 numbered_there : {X : Type 0} (f : X → ℕ) (xs : List X) (from count k : ℕ) → AreNumbered f xs from count → from ≤ k → k < from + count → (x : X) × StandsIn x xs × (f x ≡ k)

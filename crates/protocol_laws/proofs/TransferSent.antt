@@ -21,21 +21,19 @@ use Rattle.protocol_laws.specs.Change.{Serves}
 use Rattle.protocol_laws.specs.Change.Serves.{HoldsBack, Tells, Stores}
 use Rattle.protocol_laws.specs.Turn.{Turn, Onward}
 use Rattle.protocol_laws.proofs.Lasting.{one_node, initial-on}
-use Rattle.protocol_laws.proofs.TransferEvents.{message_back, Acting}
+use Rattle.protocol_laws.proofs.Came.{message_back, Acting}
 use Rattle.protocol_laws.proofs.TransferEnters.{BecomesLeader, LeadsAs, Leading, leading_of}
 use Rattle.protocol_laws.proofs.TransferInitial.{no_initial, initial_now}
 use Rattle.protocol_laws.proofs.TransferSends.{SaysNothing, SayNothing, one-says, append-says, map-says, notices-says}
 use Rattle.protocol_laws.proofs.TransferSending.{Sending, sending_by}
 use Rattle.protocol_laws.proofs.TransferSending.Sending.{Says, SendsWhole, SendsPiece}
+use Rattle.protocol_laws.proofs.ServiceSays.{ServiceSays}
+use Rattle.protocol_laws.proofs.ServiceSays.ServiceSays.{TellsStored, TellsChange, Refuses}
 
-tell_nodes-says : (nodes : ℕ) (c : Membership) → SayNothing (tell_nodes nodes c)
-unfolding tell_nodes
-tell_nodes-says nodes c = map-says (λ node. to node (ConfigChange c)) (range_with_len 1 nodes) (λ node. tt)
-
-serves-says : (nodes : ℕ) (configs : List Membership) (asker : ℕ) (asked : Message) (out : Out (List Membership)) → Serves nodes configs asker asked out → SayNothing out.sends
-serves-says nodes configs asker asked out (HoldsBack m answer notices n) = notices-says notices n
-serves-says nodes configs asker asked out (Tells m c k) = one-says (to asker (Stored c)) tt
-serves-says nodes configs asker asked out (Stores c last free is e) = append-says (to asker (Stored c) ∷ []) (tell_nodes nodes c) (one-says (to asker (Stored c)) tt) (tell_nodes-says nodes c)
+served-says : (kept : List Membership) (m : Message) → ServiceSays kept m → SaysNothing m
+served-says kept _ (TellsStored c k) = tt
+served-says kept _ (TellsChange c k) = tt
+served-says kept _ (Refuses kind why mark) = tt
 
 -- a message that speaks of entries, sent in an event
 pub record SentNow (tests : Tests) (setup : Deployment) (t : Moment) (event : Event) (h : Happening) (from dest : ℕ) (m : Message) : Type 0 where
@@ -49,7 +47,7 @@ pub sent_how : (tests : Tests) (setup : Deployment) (t : Moment) (event : Event)
 sent_how tests setup t event h turn from dest m speaks s = elim (message_back tests setup t event h turn from dest m s) [
   | inl k ↦ inl k
   | inr (inl k) ↦ inr (record { acting = k.acting; sender = k.sender; why = sending_by tests setup.version k.acting.node k.acting.input k.acting.out k.acting.effect dest m k.among })
-  | inr (inr k) ↦ absurd (speaks (serves-says k.nodes t.now.configs k.asker k.asked k.out k.serves (to dest m) k.among))
+  | inr (inr k) ↦ absurd (speaks (served-says h.after.configs m k))
 ]
 
 -- state is sent by who becomes leader

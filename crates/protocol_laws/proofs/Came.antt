@@ -1,4 +1,4 @@
--- How a node or a message of the moment after an event came to be: it was there before, or somebody acted.
+-- How the nodes, messages and configurations of the moment after an event came to be: they were there before, or somebody acted.
 use Rattle.std.proofs.Common.{◌≡◌, ℕ, ◌+◌, List, [], ◌∷◌, Some, ◌⊎◌, inl, inr, refl, sym, ap, subst, ◌∙◌}
 use Rattle.tcs_terms.specs.declared.inputs.Event.{Event}
 use Rattle.tcs_terms.specs.declared.inputs.Input.{Input}
@@ -20,6 +20,7 @@ use Rattle.protocol_laws.specs.Effect.Effect.{Rests}
 use Rattle.protocol_laws.specs.Turn.{Turn}
 use Rattle.protocol.proofs.Lists.{StandsIn-append}
 use Rattle.protocol_laws.proofs.After.{put_node-back, put_node-there, sent-back, IsNew}
+use Rattle.protocol_laws.proofs.ServiceSays.{ServiceSays, service_says}
 
 -- a node keeps its name
 pub effect_name : (tests : Tests) (version : ℕ) (node : NodeRecord) (input : Input) (out : Out NodeRecord) → Effect tests version node input out → out.kept.name ≡ node.name
@@ -40,6 +41,7 @@ pub record Acting (tests : Tests) (setup : Deployment) (t : Moment) (event : Eve
   pub is : IsNode t node
   pub effect : Effect tests setup.version node input out
   pub there : IsNode (goes_to t h.after) out.kept
+  pub happens : h ≡ happens_at t.now node.name out
 
 -- a node after an event, if it acted in it
 pub record IsOfActing (tests : Tests) (setup : Deployment) (t : Moment) (event : Event) (h : Happening) (new : NodeRecord) : Type 0 where
@@ -52,17 +54,7 @@ pub record IsSentBy (tests : Tests) (setup : Deployment) (t : Moment) (event : E
   pub sender : from ≡ acting.node.name
   pub among : StandsIn (to dest m) acting.out.sends
 
--- a message that the service sent in an event
-pub record IsServed (t : Moment) (h : Happening) (from dest : ℕ) (m : Message) : Type 0 where
-  pub out : Out (List Membership)
-  pub asker : ℕ
-  pub asked : Message
-  pub nodes : ℕ
-  pub serves : Serves nodes t.now.configs asker asked out
-  pub sender : from ≡ 0
-  pub among : StandsIn (to dest m) out.sends
-
-abbrev acting_of : (tests : Tests) (setup : Deployment) (t : Moment) (event : Event) (name : ℕ) (node : NodeRecord) (input : Input) (out : Out NodeRecord) → Comes t.now name event input → IsNode t node → node.name ≡ name
+abbrev pub acting_of : (tests : Tests) (setup : Deployment) (t : Moment) (event : Event) (name : ℕ) (node : NodeRecord) (input : Input) (out : Out NodeRecord) → Comes t.now name event input → IsNode t node → node.name ≡ name
     → Effect tests setup.version node input out → Acting tests setup t event (happens_at t.now name out)
 acting_of tests setup t event name node input out c s e f = record {
   node = node;
@@ -72,6 +64,7 @@ acting_of tests setup t event name node input out c s e f = record {
   is = s;
   effect = f;
   there = put_node-there out.kept node t.now.nodes s (sym (effect_name tests setup.version node input out f));
+  happens = ap (λ n. happens_at t.now n out) (sym e);
 }
 
 node_by : (tests : Tests) (setup : Deployment) (t : Moment) (event : Event) (h : Happening) → Change tests setup.version t.now event h → (new : NodeRecord) → IsNode (goes_to t h.after) new
@@ -95,8 +88,8 @@ sent_from from sender dest m sends n = (ap (λ s. s.from) n.is, subst (λ (o : O
     same : (o : Outgoing) → ◌≡◌ {A = Sent} (record { from = from; to = dest; message = m }) (record { from = sender; to = o.to; message = o.message }) → to dest m ≡ o
     same o e = ap (λ (s : Sent). to s.to s.message) e
 
-message_by : (tests : Tests) (setup : Deployment) (t : Moment) (event : Event) (h : Happening) → Change tests setup.version t.now event h → (from dest : ℕ) (m : Message) → WasSent (goes_to t h.after) from dest m
-    → WasSent t from dest m ⊎ IsSentBy tests setup t event h from dest m ⊎ IsServed t h from dest m
+pub message_by : (tests : Tests) (setup : Deployment) (t : Moment) (event : Event) (h : Happening) → Change tests setup.version t.now event h → (from dest : ℕ) (m : Message) → WasSent (goes_to t h.after) from dest m
+    → WasSent t from dest m ⊎ IsSentBy tests setup t event h from dest m ⊎ ServiceSays h.after.configs m
 message_by tests setup t event h (Passes e r a) from dest m s = inl (record { sent = s.sent })
 message_by tests setup t event h (Stops name) from dest m s = inl (record { sent = s.sent })
 message_by tests setup t event h (Acts e name node input out c found stands named running effect) from dest m s = elim (sent-back t.now.messages name out.sends (record { from = from; to = dest; message = m }) s.sent) [
@@ -106,13 +99,12 @@ message_by tests setup t event h (Acts e name node input out c found stands name
 ]
 message_by tests setup t event h (AtService number asker asked sent out e found stands serves) from dest m s = elim (sent-back t.now.messages 0 out.sends (record { from = from; to = dest; message = m }) s.sent) [
   | inl p ↦ inl (record { sent = p })
-  | inr p ↦ (let q = sent_from from 0 dest m out.sends p in
-      inr (inr (record { out = out; asker = asker; asked = asked; nodes = _; serves = serves; sender = q.0; among = q.1 })))
+  | inr p ↦ inr (inr (service_says _ t.now.configs asker asked out serves (to dest m) (sent_from from 0 dest m out.sends p).1))
 ]
 
 -- a message after an event was sent before, or by who acted
 pub message_back : (tests : Tests) (setup : Deployment) (t : Moment) (event : Event) (h : Happening) → Turn tests setup t event h → (from dest : ℕ) (m : Message) → WasSent (goes_to t h.after) from dest m
-    → WasSent t from dest m ⊎ IsSentBy tests setup t event h from dest m ⊎ IsServed t h from dest m
+    → WasSent t from dest m ⊎ IsSentBy tests setup t event h from dest m ⊎ ServiceSays h.after.configs m
 message_back tests setup t event h turn from dest m s = message_by tests setup t event h turn.change from dest m s
 
 -- a configuration that an event stored: the next one of its shard
@@ -142,3 +134,8 @@ config_by tests version t event h (AtService number asker asked sent out e found
 -- a configuration that is stored after an event was stored before, or is the next one of its shard
 pub config_back : (tests : Tests) (setup : Deployment) (t : Moment) (event : Event) (h : Happening) → Turn tests setup t event h → (c : Membership) → IsStored (goes_to t h.after) c → IsStored t c ⊎ IsNext t c
 config_back tests setup t event h turn c s = config_by tests setup.version t event h turn.change c s
+
+-- the nodes after a node acted
+pub acted_back : (tests : Tests) (setup : Deployment) (t : Moment) (event : Event) (h : Happening) (new : NodeRecord) → (a : Acting tests setup t event h) → IsNode (goes_to t h.after) new
+    → (new ≡ a.out.kept) ⊎ (IsNode t new × (new.name ≡ a.out.kept.name → ⊥))
+acted_back tests setup t event h new a s = put_node-back a.out.kept t.now.nodes new (subst (λ (x : Happening). StandsIn new x.after.nodes) a.happens s)
