@@ -22,8 +22,7 @@ use Rattle.protocol_laws.specs.Turn.{Turn, Onward}
 use Rattle.protocol_laws.proofs.After.{put_node-back}
 use Rattle.protocol_laws.proofs.OnwardOf.{onward_of}
 use Rattle.protocol_laws.proofs.ConfigurationsInputs.{delivered}
-use Rattle.protocol_laws.proofs.ConfigurationsSends.{is_plain}
-use Rattle.protocol_laws.proofs.ConfigurationsSaid.{Says}
+use Rattle.protocol_laws.proofs.ConfigurationsSaid.{Says, is_plain}
 use Rattle.protocol_laws.proofs.ConfigurationsSaid.Says.{Plainly, Answers, Tells, Proposes}
 use Rattle.protocol_laws.proofs.ConfigurationsStored.{service_stored}
 use Rattle.protocol_laws.proofs.ServiceSays.ServiceSays.{TellsStored, TellsChange, Refuses}

@@ -23,8 +23,7 @@ use Rattle.protocol_laws.specs.Effect.{Effect}
 use Rattle.protocol_laws.specs.Turn.{Turn}
 use Rattle.protocol_laws.proofs.After.{put_node-back, sent-back}
 use Rattle.protocol_laws.proofs.Lasting.{one_node}
-use Rattle.protocol_laws.proofs.ConfigurationsSends.{is_plain, plain-tells}
-use Rattle.protocol_laws.proofs.ConfigurationsSaid.{Says, says}
+use Rattle.protocol_laws.proofs.ConfigurationsSaid.{Says, says, is_plain, plain-tells}
 use Rattle.protocol_laws.proofs.ConfigurationsSaid.Says.{Plainly, Answers, Tells, Proposes}
 use Rattle.protocol_laws.proofs.ConfigurationsHad.{Heard, had, configs_had}
 use Rattle.protocol_laws.proofs.ConfigurationsSame.{SameNode, same_node}

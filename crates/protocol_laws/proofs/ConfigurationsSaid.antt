@@ -1,11 +1,11 @@
 -- What a node says of places in one event, rule by rule.
-use Rattle.std.proofs.Common.{◌≡◌, ℕ, Bool, true, false, List, [], ◌∷◌, ◌++◌, map, flat_map, Some, inl, inr, sym, subst, refl, ◌==◌, ◌≤◌}
+use Rattle.std.proofs.Common.{◌≡◌, ℕ, Bool, true, false, List, [], ◌∷◌, ◌++◌, map, flat_map, Some, inl, inr, sym, subst, refl, ◌==◌, ◌≤◌, None}
 use Rattle.std.specs.List.{range_with_len}
 use Rattle.tcs_terms.specs.declared.inputs.Input.{Input}
 use Rattle.tcs_terms.specs.declared.inputs.Input.TheVariants as inputs
 use Rattle.tcs_terms.specs.declared.logs.Row.{Row}
 use Rattle.tcs_terms.specs.declared.messages.Message.{Message}
-use Rattle.tcs_terms.specs.declared.messages.Message.TheVariants.{Probe, ProbeAck, NewConfig, NewState, Cas, Stored, StatePiece}
+use Rattle.tcs_terms.specs.declared.messages.Message.TheVariants.{Probe, ProbeAck, NewConfig, NewState, Cas, Stored, StatePiece, Prepare, PrepareAck, Accept, AcceptAck, DecisionFor, ConfigChange, Last, At, OutcomeOf, Refused}
 use Rattle.tcs_terms.specs.declared.messages.Outgoing.{Outgoing}
 use Rattle.tcs_terms.specs.Places.{Membership}
 use Rattle.tcs_laws.specs.Certification.{Tests}
@@ -13,18 +13,60 @@ use Rattle.protocol.specs.Choices.{when}
 use Rattle.protocol.specs.Outcomes.{Out, to}
 use Rattle.protocol.specs.Pieces.{piece_count, piece_of}
 use Rattle.protocol.specs.Probing.{ask_stage, tell_leader}
-use Rattle.protocol.specs.Records.{Coordinator, Stage, NodeRecord}
+use Rattle.protocol.specs.Records.{Coordinator, Stage, NodeRecord, Case}
 use Rattle.protocol.specs.Records.Stage.{Idle, AskedLast, Probing, AskedLower, CasSent}
 use Rattle.protocol.specs.ShardRules.{state_to, least}
 use Rattle.protocol.specs.Views.{followers}
 use Rattle.protocol.specs.Invariant.Configurations.{told_config}
 use Rattle.protocol.specs.Invariant.Time.{StandsIn}
 use Rattle.protocol.proofs.Lists.{StandsIn-append}
-use Rattle.protocol_laws.specs.Effect.{Sees, Hears, Effect}
+use Rattle.protocol_laws.specs.Effect.{Sees, Hears, Effect, GoesOn}
 use Rattle.protocol_laws.specs.Effect.Sees.{Replaces, Keeps as KeepsView}
 use Rattle.protocol_laws.specs.Effect.Hears.{Waits, ProbesLast, ProbesLower, IsDone}
 use Rattle.protocol_laws.specs.Effect.Effect.{Rests, Certifies, TakesOver, Nudges, Moves, Lowers, Reads, Asks, AnswersAgain, Appends, Votes, Acknowledges, Changes, Learns, Keeps, Accepts, Marks, Promises, Chooses, FindsLow, Leads, Follows, Gathers, FollowsPieces}
-use Rattle.protocol_laws.proofs.ConfigurationsSends.{is_plain, ArePlain, send_case-plain, resend-plain, ask_leader-plain, accept-plain, goes_on-plain, probe-plain, notices-plain}
+use Rattle.tcs_terms.specs.declared.ids.TxId.{TxId}
+use Rattle.protocol.specs.Cases.{send_case, decision_of}
+use Rattle.protocol.specs.Coordination.{resend, ask_leader}
+use Rattle.protocol_laws.proofs.Sends.{Each, each-one, each-both, each-case, each-accept, each-resend, each-ask_leader, each-sees, each-decision, each-goes_on, each-stage, each-hears, each-state, each-notice}
+
+-- a message that tells no configuration, proposes none, and answers no probe
+abbrev pub is_plain : Message → Bool
+is_plain (Prepare epoch txn shards payload) = true
+is_plain (PrepareAck shard epoch entry) = true
+is_plain (Accept epoch entry) = true
+is_plain (AcceptAck shard epoch slot txn) = true
+is_plain (DecisionFor epoch slot txn commit) = true
+is_plain (Probe epoch) = true
+is_plain (ProbeAck epoch state) = false
+is_plain (NewConfig config) = false
+is_plain (NewState config rows) = false
+is_plain (ConfigChange config) = false
+is_plain (Last shard) = true
+is_plain (At shard epoch) = true
+is_plain (Cas config) = false
+is_plain (Stored config) = false
+is_plain (OutcomeOf txn decision) = true
+is_plain (Refused kind why mark) = true
+is_plain (StatePiece config piece pieces rows) = false
+
+pub plain-tells : (m : Message) → is_plain m ≡ true → told_config m ≡ None
+plain-tells (Prepare epoch txn shards payload) h = refl
+plain-tells (PrepareAck shard epoch entry) h = refl
+plain-tells (Accept epoch entry) h = refl
+plain-tells (AcceptAck shard epoch slot txn) h = refl
+plain-tells (DecisionFor epoch slot txn commit) h = refl
+plain-tells (Probe epoch) h = refl
+plain-tells (ProbeAck epoch state) h = absurd (cc h)
+plain-tells (NewConfig config) h = absurd (cc h)
+plain-tells (NewState config rows) h = absurd (cc h)
+plain-tells (ConfigChange config) h = absurd (cc h)
+plain-tells (Last shard) h = refl
+plain-tells (At shard epoch) h = refl
+plain-tells (Cas config) h = absurd (cc h)
+plain-tells (Stored config) h = absurd (cc h)
+plain-tells (OutcomeOf txn decision) h = refl
+plain-tells (Refused kind why mark) h = refl
+plain-tells (StatePiece config piece pieces rows) h = absurd (cc h)
 
 -- What a node says with an input, after which it is `kept`: something plain; its state epoch, to a probe that it promises; a configuration
 -- that the input told; or a configuration that it proposes and keeps.
@@ -34,89 +76,48 @@ pub data Says (node kept : NodeRecord) (input : Input) : Message → Type 0 wher
   Tells : (m : Message) (from : ℕ) (heard : Message) (c : Membership) → input ≡ inputs.Deliver from heard → told_config heard ≡ Some c → told_config m ≡ Some c → Says node kept input m
   Proposes : (c : Membership) → kept.prober ≡ CasSent c → Says node kept input (Cas c)
 
-abbrev SaysOf : NodeRecord → NodeRecord → Input → List Outgoing → Type 0
-SaysOf node kept input os = (o : Outgoing) → StandsIn o os → Says node kept input o.message
+-- the same of a message as it is sent
+abbrev Said : NodeRecord → NodeRecord → Input → Outgoing → Type 0
+Said node kept input o = Says node kept input o.message
 
-plainly : (node kept : NodeRecord) (input : Input) (os : List Outgoing) → ArePlain os → SaysOf node kept input os
-plainly node kept input os p o s = Plainly o.message (p o s)
+case-said : (node kept : NodeRecord) (input : Input) (views : List Membership) (txn : TxId) (case : Case) → Each (Said node kept input) (send_case views txn case)
+case-said node kept input views txn case = each-case (Said node kept input) views txn case (λ shard v e. Plainly _ refl) (λ p x v name a b c d. Plainly _ refl)
 
-one-said : (node kept : NodeRecord) (input : Input) (o : Outgoing) → Says node kept input o.message → SaysOf node kept input (o ∷ [])
-one-said node kept input o h p (inl e) = subst (λ q. Says node kept input q.message) (sym e) h
-one-said node kept input o h p (inr s) = absurd s
+ask_leader-said : (node kept : NodeRecord) (input : Input) (c : Coordinator) (config : Membership) → Each (Said node kept input) (ask_leader c config)
+ask_leader-said node kept input c config = each-ask_leader (Said node kept input) c config (λ txn case s. Plainly _ refl)
 
-append-said : (node kept : NodeRecord) (input : Input) (xs ys : List Outgoing) → SaysOf node kept input xs → SaysOf node kept input ys → SaysOf node kept input (xs ++ ys)
-append-said node kept input xs ys p q o s = elim (StandsIn-append xs ys o s) [ inl a ↦ p o a | inr b ↦ q o b ]
+goes_on-said : (node kept : NodeRecord) (input : Input) (c : Coordinator) (txn : TxId) (case : Case) (sends : List Outgoing) (out : Out Coordinator) → GoesOn c txn case sends out → Each (Said node kept input) sends → Each (Said node kept input) out.sends
+goes_on-said node kept input c txn case sends out g a = each-goes_on (Said node kept input) c txn case sends out g a (λ complete noted.
+    each-decision (Said node kept input) c.views txn case.parts (decision_of case.parts) (λ p x v name b d e f. Plainly _ refl) (Plainly _ refl))
 
-map-said : {A : Type 0} (node kept : NodeRecord) (input : Input) (f : A → Outgoing) (xs : List A) → ((a : A) → Says node kept input (f a).message) → SaysOf node kept input (map f xs)
-map-said node kept input f [] h o s = absurd s
-map-said node kept input f (x ∷ xs) h o (inl e) = subst (λ p. Says node kept input p.message) (sym e) (h x)
-map-said node kept input f (x ∷ xs) h o (inr s) = map-said node kept input f xs h o s
-
-flat_map-said : {A : Type 0} (node kept : NodeRecord) (input : Input) (f : A → List Outgoing) (xs : List A) → ((a : A) → SaysOf node kept input (f a)) → SaysOf node kept input (flat_map f xs)
-flat_map-said node kept input f [] h = λ o s. absurd s
-flat_map-said node kept input f (x ∷ xs) h = append-said node kept input (f x) (flat_map f xs) (h x) (flat_map-said node kept input f xs h)
-
--- what the stage waits for is asked again
-ask_stage-said : (node : NodeRecord) (input : Input) (stage : Stage) → node.prober ≡ stage → SaysOf node node input (ask_stage stage)
-unfolding ask_stage
-ask_stage-said node input Idle e = λ o s. absurd s
-ask_stage-said node input (AskedLast shard want) e = one-said node node input _ (Plainly _ refl)
-ask_stage-said node input (Probing shard want epoch probed low) e = plainly node node input _ (probe-plain epoch probed.members)
-ask_stage-said node input (AskedLower shard want epoch asked) e = one-said node node input _ (Plainly _ refl)
-ask_stage-said node input (CasSent c) e = one-said node node input _ (Proposes c e)
-
-sees-said : (node kept : NodeRecord) (input : Input) (c : Coordinator) (config : Membership) (seen : Coordinator) (sends : List Outgoing) → Sees c config seen sends → SaysOf node kept input sends
-sees-said node kept input c config seen sends (Replaces n) = plainly node kept input _ (ask_leader-plain c config)
-sees-said node kept input c config seen sends (KeepsView n) = λ o s. absurd s
-
-tell_leader-said : (node kept : NodeRecord) (from me : ℕ) (config : Membership) → SaysOf node kept (inputs.Deliver from (Stored config)) (tell_leader me config)
-unfolding tell_leader when
-tell_leader-said node kept from me config = go (config.by == me)
-  where
-    go : (b : Bool) → SaysOf node kept (inputs.Deliver from (Stored config)) (when b (to config.leader (NewConfig config) ∷ []) [])
-    go true = one-said node kept _ _ (Tells _ from (Stored config) config refl refl refl)
-    go false = λ o s. absurd s
-
-hears-said : (node kept : NodeRecord) (from me : ℕ) (config : Membership) (view : ℕ) (old new : Stage) (sends : List Outgoing) → Hears me config view old new sends → SaysOf node kept (inputs.Deliver from (Stored config)) sends
-hears-said node kept from me config view old new sends (Waits stage) = λ o s. absurd s
-hears-said node kept from me config view old new sends (ProbesLast shard want s v m) = plainly node kept _ _ (probe-plain _ config.members)
-hears-said node kept from me config view old new sends (ProbesLower shard want epoch asked s e) = plainly node kept _ _ (probe-plain epoch config.members)
-hears-said node kept from me config view old new sends (IsDone c s e) = tell_leader-said node kept from me config
-
-state_to-said : (node kept : NodeRecord) (from version : ℕ) (config : Membership) (rows : List Row) (name : ℕ) → SaysOf node kept (inputs.Deliver from (NewConfig config)) (state_to version config rows name)
-unfolding state_to when
-state_to-said node kept from version config rows name = go (version == 2)
-  where
-    go : (b : Bool) → SaysOf node kept (inputs.Deliver from (NewConfig config)) (when b
-        (map (λ k. to name (StatePiece config k (piece_count rows) (piece_of rows k))) (range_with_len 1 (piece_count rows)))
-        (to name (NewState config rows) ∷ []))
-    go true = map-said node kept _ (λ k. to name (StatePiece config k (piece_count rows) (piece_of rows k))) (range_with_len 1 (piece_count rows)) (λ k. Tells _ from (NewConfig config) config refl refl refl)
-    go false = one-said node kept _ _ (Tells _ from (NewConfig config) config refl refl refl)
-
-pub says : (tests : Tests) (version : ℕ) (node : NodeRecord) (input : Input) (out : Out NodeRecord) → Effect tests version node input out
-    → (o : Outgoing) → StandsIn o out.sends → Says node out.kept input o.message
-says tests version node input out (Rests i answer notices n) = plainly node node i notices (notices-plain notices n)
-says tests version node input out (Certifies payload n case e) = plainly node out.kept _ _ (send_case-plain node.coordinator.views _ case)
-says tests version node input out (TakesOver txn row r u n m case e) = plainly node _ _ _ (send_case-plain node.coordinator.views txn case)
-says tests version node input out Nudges = append-said node node _ _ _ (plainly node node _ _ (resend-plain node.coordinator)) (ask_stage-said node _ node.prober refl)
-says tests version node input out (Moves shard want) = one-said node _ _ _ (Plainly _ refl)
-says tests version node input out (Lowers shard want epoch probed low e l p) = one-said node _ _ _ (Plainly _ refl)
+pub says : (tests : Tests) (version : ℕ) (node : NodeRecord) (input : Input) (out : Out NodeRecord) → Effect tests version node input out → Each (Said node out.kept input) out.sends
+says tests version node input out (Rests i answer notices n) = each-notice (Said node node i) notices n (λ name kind mark why. Plainly _ refl)
+says tests version node input out (Certifies payload n case e) = case-said node out.kept _ node.coordinator.views _ case
+says tests version node input out (TakesOver txn row r u n m case e) = case-said node _ _ node.coordinator.views txn case
+says tests version node input out Nudges =
+    each-both (Said node node inputs.Nudge) (resend node.coordinator) (ask_stage node.prober)
+    (each-resend (Said node node inputs.Nudge) node.coordinator (λ txn case s. case-said node node inputs.Nudge node.coordinator.views txn case))
+    (each-stage (Said node node inputs.Nudge) node.prober (λ name epoch. Plainly _ refl) (λ shard. Plainly _ refl) (λ shard epoch. Plainly _ refl) (λ config e. Proposes config e))
+says tests version node input out (Moves shard want) = each-one (Said node _ _) _ (Plainly _ refl)
+says tests version node input out (Lowers shard want epoch probed low e l p) = each-one (Said node _ _) _ (Plainly _ refl)
 says tests version node input out (Reads name l) = λ o s. absurd s
-says tests version node input out (Asks shard) = one-said node _ _ _ (Plainly _ refl)
-says tests version node input out (AnswersAgain from epoch txn shards part row l e a r) = one-said node _ _ _ (Plainly _ refl)
-says tests version node input out (Appends from epoch txn shards part l e a r f entry n) = one-said node _ _ _ (Plainly _ refl)
-says tests version node input out (Votes from shard epoch entry case part view p e l f o g) = plainly node _ _ _ (goes_on-plain _ _ _ _ o g (accept-plain _ _ _))
-says tests version node input out (Acknowledges from shard epoch slot txn case part view p e l f o g) = plainly node _ _ _ (goes_on-plain _ _ _ _ o g (λ q s. absurd s))
-says tests version node input out (Changes from config n) = plainly node _ _ _ (ask_leader-plain node.coordinator config)
+says tests version node input out (Asks shard) = each-one (Said node _ _) _ (Plainly _ refl)
+says tests version node input out (AnswersAgain from epoch txn shards part row l e a r) = each-one (Said node _ _) _ (Plainly _ refl)
+says tests version node input out (Appends from epoch txn shards part l e a r f entry n) = each-one (Said node _ _) _ (Plainly _ refl)
+says tests version node input out (Votes from shard epoch entry case part view p e l f o g) = goes_on-said node _ _ _ _ _ _ o g (each-accept (Said node _ _) _ _ view (λ name s. Plainly _ refl))
+says tests version node input out (Acknowledges from shard epoch slot txn case part view p e l f o g) = goes_on-said node _ _ _ _ _ _ o g (λ q s. absurd s)
+says tests version node input out (Changes from config n) = ask_leader-said node _ _ node.coordinator config
 says tests version node input out (Learns from config coordinator sent stage asked s h) =
-    append-said node _ _ sent asked (sees-said node _ _ node.coordinator config coordinator sent s) (hears-said node _ from _ config _ node.prober stage asked h)
+    each-both (Said node _ _) sent asked (each-sees (Said node _ _) node.coordinator config coordinator sent s (ask_leader-said node _ _ node.coordinator config))
+    (each-hears (Said node _ _) node.name config _ node.prober stage asked h (λ name epoch. Plainly _ refl) (Tells _ from (Stored config) config refl refl refl))
 says tests version node input out (Keeps from txn decision h n) = λ o s. absurd s
-says tests version node input out (Accepts from epoch entry f e t) = one-said node _ _ _ (Plainly _ refl)
+says tests version node input out (Accepts from epoch entry f e t) = each-one (Said node _ _) _ (Plainly _ refl)
 says tests version node input out (Marks from epoch slot txn commit e h) = λ o s. absurd s
-says tests version node input out (Promises from epoch l) = one-said node _ _ _ (Answers from epoch refl l refl refl)
-says tests version node input out (Chooses from state shard want epoch probed low e a l) = one-said node _ _ _ (Proposes _ refl)
+says tests version node input out (Promises from epoch l) = each-one (Said node _ _) _ (Answers from epoch refl l refl refl)
+says tests version node input out (Chooses from state shard want epoch probed low e a l) = each-one (Said node _ _) _ (Proposes _ refl)
 says tests version node input out (FindsLow from state shard want epoch probed low e a l) = λ o s. absurd s
-says tests version node input out (Leads from config s r p l) = flat_map-said node _ _ (state_to version config node.rows) (followers config) (λ name. state_to-said node _ from version config node.rows name)
+says tests version node input out (Leads from config s r p l) =
+    each-state (Said node _ _) version config node.rows (λ name. Tells _ from (NewConfig config) config refl refl refl) (λ name k s. Tells _ from (NewConfig config) config refl refl refl)
 says tests version node input out (Follows from config rows v m) = λ o s. absurd s
 says tests version node input out (Gathers from config number pieces rows gathering v m t g w) = λ o s. absurd s
 says tests version node input out (FollowsPieces from config number pieces rows gathering v m t g w) = λ o s. absurd s

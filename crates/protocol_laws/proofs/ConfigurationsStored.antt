@@ -15,8 +15,8 @@ use Rattle.protocol.specs.Invariant.Time.{StandsIn}
 use Rattle.protocol.proofs.Lists.{StandsIn-append}
 use Rattle.protocol_laws.specs.Change.{Serves}
 use Rattle.protocol_laws.specs.Change.Serves.{HoldsBack, Tells, Stores}
-use Rattle.protocol_laws.proofs.ConfigurationsSends.{is_plain, notices-plain}
 use Rattle.protocol_laws.proofs.Standing.{StandsIn-left, StandsIn-right}
+use Rattle.protocol_laws.proofs.ConfigurationsSaid.{is_plain}
 
 -- the epochs of one shard's configurations are 1 to the last one
 abbrev pub EpochsFit : List Membership → Type 0

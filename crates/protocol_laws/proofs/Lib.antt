@@ -39,7 +39,6 @@ pub mod ChangeOf
 pub mod OnwardOf
 pub mod After
 pub mod Lasting
-pub mod ConfigurationsSends
 pub mod ConfigurationsSaid
 pub mod ConfigurationsHad
 pub mod ConfigurationsSame
@@ -97,7 +96,6 @@ pub mod TransferReached
 pub mod TransferInitial
 pub mod TransferHeld
 pub mod TransferHandedOn
-pub mod TransferSends
 pub mod TransferSending
 pub mod TransferSent
 pub mod TransferKept
@@ -126,3 +124,4 @@ pub mod SameTxn
 pub mod CaseParts
 pub mod ServiceSays
 pub mod Noted
+pub mod Sends

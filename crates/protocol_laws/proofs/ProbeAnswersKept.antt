@@ -17,8 +17,7 @@ use Rattle.protocol.specs.Invariant.Time.{Moment, IsNode, goes_to}
 use Rattle.protocol_laws.specs.Turn.{Turn, Grows, GrewTo, Onward}
 use Rattle.protocol_laws.proofs.Lasting.{one_node, reached-back}
 use Rattle.protocol_laws.proofs.OnwardOf.{onward_of}
-use Rattle.protocol_laws.proofs.ConfigurationsSends.{is_plain}
-use Rattle.protocol_laws.proofs.ConfigurationsSaid.{Says}
+use Rattle.protocol_laws.proofs.ConfigurationsSaid.{Says, is_plain}
 use Rattle.protocol_laws.proofs.ConfigurationsSaid.Says.{Plainly, Answers, Tells, Proposes}
 use Rattle.protocol_laws.proofs.ServiceSays.ServiceSays.{TellsStored, TellsChange, Refuses}
 use Rattle.protocol_laws.proofs.ProbeAnswersSent.{SentHow, sent_how}

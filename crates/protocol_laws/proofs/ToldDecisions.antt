@@ -35,6 +35,7 @@ use Rattle.protocol_laws.proofs.After.{IsNew, sent-back}
 use Rattle.protocol_laws.proofs.Standing.{StandsIn-left, StandsIn-right}
 use Rattle.protocol_laws.proofs.ServiceSays.{ServiceSays, service_says}
 use Rattle.protocol_laws.proofs.ServiceSays.ServiceSays.{TellsStored, TellsChange, Refuses}
+use Rattle.protocol_laws.proofs.Sends.{Each, each-none, each-one, each-both, each-case, each-accept, each-resend, each-ask_leader, each-sees, each-decision, each-goes_on, each-stage, each-hears, each-state, each-notice}
 
 -- a message, where it is a DECISION, tells one that is noted
 abbrev pub TellsNoted : List Note → Message → Type 0
@@ -56,134 +57,43 @@ TellsNoted ns (OutcomeOf txn decision) = Unit {0}
 TellsNoted ns (Refused kind why mark) = Unit {0}
 TellsNoted ns (StatePiece config number pieces rows) = Unit {0}
 
--- all of them do
-abbrev AllTell : List Note → List Outgoing → Type 0
-AllTell ns os = (o : Outgoing) → StandsIn o os → TellsNoted ns o.message
+-- the same of a message as it is sent
+abbrev IsTold : List Note → Outgoing → Type 0
+IsTold ns o = TellsNoted ns o.message
 
-none-tell : (ns : List Note) → AllTell ns []
-none-tell ns o s = absurd s
+case-tells : (ns : List Note) (views : List Membership) (txn : TxId) (case : Case) → Each (IsTold ns) (send_case views txn case)
+case-tells ns views txn case = each-case (IsTold ns) views txn case (λ shard v e. tt) (λ p x v node a b c d. tt)
 
-one-tells : (ns : List Note) (p : Outgoing) → TellsNoted ns p.message → AllTell ns (p ∷ [])
-one-tells ns p t o (inl e) = subst (λ q. TellsNoted ns q.message) (sym e) t
-one-tells ns p t o (inr s) = absurd s
+ask_leader-tells : (ns : List Note) (c : Coordinator) (config : Membership) → Each (IsTold ns) (ask_leader c config)
+ask_leader-tells ns c config = each-ask_leader (IsTold ns) c config (λ txn case s. tt)
 
-both-tell : (ns : List Note) (xs ys : List Outgoing) → AllTell ns xs → AllTell ns ys → AllTell ns (xs ++ ys)
-both-tell ns xs ys a b o s = elim (StandsIn-append xs ys o s) [ inl p ↦ a o p | inr q ↦ b o q ]
+goes_on-tells : (c : Coordinator) (txn : TxId) (case : Case) (sends : List Outgoing) (out : Out Coordinator) → GoesOn c txn case sends out → Each (IsTold out.notes) sends → Each (IsTold out.notes) out.sends
+goes_on-tells c txn case sends out g a = each-goes_on (IsTold out.notes) c txn case sends out g a (λ complete noted.
+    each-decision (IsTold out.notes) c.views txn case.parts (decision_of case.parts)
+    (λ p x v node b d e f. (decision_of case.parts, subst (λ ns. StandsIn (notes.Decide txn (decision_of case.parts)) ns) (sym noted) (inl refl), refl)) tt)
 
-map-tells : {A : Type 0} (ns : List Note) (f : A → Outgoing) (xs : List A) → ((a : A) → TellsNoted ns (f a).message) → AllTell ns (map f xs)
-map-tells ns f [] h o s = absurd s
-map-tells ns f (x ∷ xs) h o (inl e) = subst (λ q. TellsNoted ns q.message) (sym e) (h x)
-map-tells ns f (x ∷ xs) h o (inr s) = map-tells ns f xs h o s
-
-flat-tell : {A : Type 0} (ns : List Note) (f : A → List Outgoing) (xs : List A) → ((a : A) → AllTell ns (f a)) → AllTell ns (flat_map f xs)
-flat-tell ns f [] h = none-tell ns
-flat-tell ns f (x ∷ xs) h = both-tell ns (f x) (flat_map f xs) (h x) (flat-tell ns f xs h)
-
-prepare-tells : (ns : List Note) (n : ℕ) (txn : TxId) (case : Case) (view : Option Membership) → AllTell ns (prepare n txn case view)
-unfolding prepare
-prepare-tells ns n txn case None = none-tell ns
-prepare-tells ns n txn case (Some v) = one-tells ns _ tt
-
-accept-tells : (ns : List Note) (entry : Preparation) (acks : List ℕ) (view : Option Membership) → AllTell ns (accept entry acks view)
-unfolding accept
-accept-tells ns entry acks None = none-tell ns
-accept-tells ns entry acks (Some v) = map-tells ns (λ node. to node (Accept v.epoch entry)) (filter (λ node. not (is_among acks node)) (followers v)) (λ node. tt)
-
-part-tells : (ns : List Note) (n : ℕ) (txn : TxId) (case : Case) (entry : Option Preparation) (acks : List ℕ) (view : Option Membership) → AllTell ns (send_part n txn case entry acks view)
-unfolding send_part
-part-tells ns n txn case None acks view = prepare-tells ns n txn case view
-part-tells ns n txn case (Some entry) acks view = accept-tells ns entry acks view
-
-case-tells : (ns : List Note) (views : List Membership) (txn : TxId) (case : Case) → AllTell ns (send_case views txn case)
-unfolding send_case
-case-tells ns views txn case =
-    flat-tell ns (λ p. send_part (length views) txn case p.entry p.acks (view_of views p.shard)) case.parts (λ p. part-tells ns (length views) txn case p.entry p.acks (view_of views p.shard))
-
-resend-tells : (ns : List Note) (c : Coordinator) → AllTell ns (resend c)
-unfolding resend
-resend-tells ns c = flat-tell ns (λ e. send_case c.views e.0 e.1) c.cases (λ e. case-tells ns c.views e.0 e.1)
-
-ask_leader-tells : (ns : List Note) (c : Coordinator) (config : Membership) → AllTell ns (ask_leader c config)
-unfolding ask_leader
-ask_leader-tells ns c config = flat-tell ns (λ e. prepare (length c.views) e.0 e.1 (Some config)) (filter (λ e. has_part e.1 config.shard) c.cases) (λ e. prepare-tells ns (length c.views) e.0 e.1 (Some config))
-
-probe-tells : (ns : List Note) (epoch : ℕ) (members : List ℕ) → AllTell ns (probe epoch members)
-unfolding probe
-probe-tells ns epoch members = map-tells ns (λ node. to node (Probe epoch)) members (λ node. tt)
-
-stage-tells : (ns : List Note) (stage : Stage) → AllTell ns (ask_stage stage)
-unfolding ask_stage
-stage-tells ns Idle = none-tell ns
-stage-tells ns (AskedLast shard want) = one-tells ns _ tt
-stage-tells ns (Probing shard want epoch probed low) = probe-tells ns epoch probed.members
-stage-tells ns (AskedLower shard want epoch asked) = one-tells ns _ tt
-stage-tells ns (CasSent config) = one-tells ns _ tt
-
-when-tells : (ns : List Note) (b : Bool) (xs ys : List Outgoing) → AllTell ns xs → AllTell ns ys → AllTell ns (when b xs ys)
-unfolding when
-when-tells ns true xs ys a b = a
-when-tells ns false xs ys a b = b
-
-leader-tells : (ns : List Note) (me : ℕ) (config : Membership) → AllTell ns (tell_leader me config)
-unfolding tell_leader
-leader-tells ns me config = when-tells ns (config.by == me) _ [] (one-tells ns _ tt) (none-tell ns)
-
-state-tells : (ns : List Note) (version : ℕ) (config : Membership) (rows : List Row) (name : ℕ) → AllTell ns (state_to version config rows name)
-unfolding state_to
-state-tells ns version config rows name =
-    when-tells ns (version == 2) _ _ (map-tells ns (λ k. to name (StatePiece config k (piece_count rows) (piece_of rows k))) (range_with_len 1 (piece_count rows)) (λ k. tt)) (one-tells ns _ tt)
-
-members-tell : (ns : List Note) (txn : TxId) (decision : Decision) (entry : Option Preparation) (view : Option Membership) → StandsIn (notes.Decide txn decision) ns → AllTell ns (tell_members txn (commits decision) entry view)
-members-tell ns txn decision (Some entry) (Some v) s = map-tells ns (λ node. to node (DecisionFor v.epoch entry.slot txn (commits decision))) v.members (λ node. (decision, s, refl))
-members-tell ns txn decision None view s = none-tell ns
-members-tell ns txn decision (Some entry) None s = none-tell ns
-
-decision-tells : (ns : List Note) (views : List Membership) (txn : TxId) (parts : List Part) (decision : Decision) → StandsIn (notes.Decide txn decision) ns → AllTell ns (tell_decision views txn parts decision)
-unfolding tell_decision
-decision-tells ns views txn parts decision s =
-    both-tell ns (flat_map (λ p. tell_members txn (commits decision) p.entry (view_of views p.shard)) parts) _
-    (flat-tell ns (λ p. tell_members txn (commits decision) p.entry (view_of views p.shard)) parts (λ p. members-tell ns txn decision p.entry (view_of views p.shard) s))
-    (one-tells ns _ tt)
-
-notices-tell : (ns : List Note) (os : List Outgoing) → AreNotices os → AllTell ns os
-notices-tell ns os Silent = none-tell ns
-notices-tell ns os (Notice node kind mark why) = one-tells ns _ tt
-
-goes_on-tells : (c : Coordinator) (txn : TxId) (case : Case) (sends : List Outgoing) (out : Out Coordinator) → GoesOn c txn case sends out → ((ns : List Note) → AllTell ns sends) → AllTell out.notes out.sends
-goes_on-tells c txn case sends o (Waiting h) a = a []
-goes_on-tells c txn case sends o (Decides h) a =
-    let noted : List Note = notes.Decide txn (decision_of case.parts) ∷ [] in
-    both-tell noted sends (tell_decision c.views txn case.parts (decision_of case.parts)) (a noted) (decision-tells noted c.views txn case.parts (decision_of case.parts) (inl refl))
-
-sees-tell : (ns : List Note) (c : Coordinator) (config : Membership) (new : Coordinator) (os : List Outgoing) → Sees c config new os → AllTell ns os
-sees-tell ns c config new os (Replaces n) = ask_leader-tells ns c config
-sees-tell ns c config new os _ = none-tell ns
-
-hears-tell : (ns : List Note) (me : ℕ) (config : Membership) (view : ℕ) (old new : Stage) (os : List Outgoing) → Hears me config view old new os → AllTell ns os
-hears-tell ns me config view old new os (Waits stage) = none-tell ns
-hears-tell ns me config view old new os (ProbesLast shard want a b c) = probe-tells ns _ config.members
-hears-tell ns me config view old new os (ProbesLower shard want epoch asked a b) = probe-tells ns epoch config.members
-hears-tell ns me config view old new os (IsDone kept a b) = leader-tells ns me config
-
-effect-tells : (tests : Tests) (version : ℕ) (node : NodeRecord) (input : Input) (out : Out NodeRecord) → Effect tests version node input out → AllTell out.notes out.sends
-effect-tells tests version node i o (Rests input answer notices h) = notices-tell [] notices h
+effect-tells : (tests : Tests) (version : ℕ) (node : NodeRecord) (input : Input) (out : Out NodeRecord) → Effect tests version node input out → Each (IsTold out.notes) out.sends
+effect-tells tests version node i o (Rests input answer notices h) = each-notice (IsTold []) notices h (λ node kind mark why. tt)
 effect-tells tests version node i o (Certifies payload h case e) = case-tells (notes.Begin (next_txn node) payload ∷ []) node.coordinator.views _ case
 effect-tells tests version node i o (TakesOver txn row a b c d case e) = case-tells (notes.Take txn ∷ []) node.coordinator.views txn case
-effect-tells tests version node i o Nudges = both-tell [] _ _ (resend-tells [] node.coordinator) (stage-tells [] node.prober)
-effect-tells tests version node i o (Moves shard want) = one-tells [] _ tt
-effect-tells tests version node i o (Lowers shard want epoch probed low a b c) = one-tells [] _ tt
+effect-tells tests version node i o Nudges =
+    each-both (IsTold []) (resend node.coordinator) (ask_stage node.prober) (each-resend (IsTold []) node.coordinator (λ txn case s. case-tells [] node.coordinator.views txn case))
+    (each-stage (IsTold []) node.prober (λ node epoch. tt) (λ shard. tt) (λ shard epoch. tt) (λ config e. tt))
+effect-tells tests version node i o (Moves shard want) = each-one (IsTold []) _ tt
+effect-tells tests version node i o (Lowers shard want epoch probed low a b c) = each-one (IsTold []) _ tt
 effect-tells tests version node i o (Reads name a) = λ q s. absurd s
-effect-tells tests version node i o (Asks shard) = one-tells [] _ tt
-effect-tells tests version node i o (AnswersAgain from epoch txn shards part row a b c d) = one-tells [] _ tt
-effect-tells tests version node i o (Appends from epoch txn shards part a b c d g entry e) = one-tells [] _ tt
-effect-tells tests version node i o (Votes from shard epoch entry case part view a b c d out g) = goes_on-tells _ _ _ _ out g (λ ns. accept-tells ns _ _ _)
-effect-tells tests version node i o (Acknowledges from shard epoch slot txn case part view a b c d out g) = goes_on-tells _ _ _ _ out g none-tell
+effect-tells tests version node i o (Asks shard) = each-one (IsTold []) _ tt
+effect-tells tests version node i o (AnswersAgain from epoch txn shards part row a b c d) = each-one (IsTold []) _ tt
+effect-tells tests version node i o (Appends from epoch txn shards part a b c d g entry e) = each-one (IsTold []) _ tt
+effect-tells tests version node i o (Votes from shard epoch entry case part view a b c d out g) = goes_on-tells _ _ _ _ out g (each-accept (IsTold out.notes) _ _ view (λ node s. tt))
+effect-tells tests version node i o (Acknowledges from shard epoch slot txn case part view a b c d out g) = goes_on-tells _ _ _ _ out g (each-none (IsTold out.notes))
 effect-tells tests version node i o (Changes from config a) = ask_leader-tells [] node.coordinator config
-effect-tells tests version node i o (Learns from config coordinator sent stage asked a b) = both-tell [] sent asked (sees-tell [] _ config coordinator sent a) (hears-tell [] _ config _ _ stage asked b)
-effect-tells tests version node i o (Accepts from epoch entry a b t) = one-tells [] _ tt
-effect-tells tests version node i o (Promises from epoch a) = one-tells [] _ tt
-effect-tells tests version node i o (Chooses from state shard want epoch probed low a b c) = one-tells [] _ tt
-effect-tells tests version node i o (Leads from config a b c d) = flat-tell [] (state_to version config node.rows) (followers config) (λ name. state-tells [] version config node.rows name)
+effect-tells tests version node i o (Learns from config coordinator sent stage asked a b) =
+    each-both (IsTold []) sent asked (each-sees (IsTold []) node.coordinator config coordinator sent a (ask_leader-tells [] node.coordinator config)) (each-hears (IsTold []) node.name config _ node.prober stage asked b (λ node epoch. tt) tt)
+effect-tells tests version node i o (Accepts from epoch entry a b t) = each-one (IsTold []) _ tt
+effect-tells tests version node i o (Promises from epoch a) = each-one (IsTold []) _ tt
+effect-tells tests version node i o (Chooses from state shard want epoch probed low a b c) = each-one (IsTold []) _ tt
+effect-tells tests version node i o (Leads from config a b c d) = each-state (IsTold []) version config node.rows (λ node. tt) (λ node k s. tt)
 effect-tells tests version node i o _ = λ q s. absurd s
 
 served-tells : (ns : List Note) (kept : List Membership) (m : Message) → ServiceSays kept m → TellsNoted ns m
@@ -214,7 +124,7 @@ tells-more ns ms (StatePiece config number pieces rows) h t = tt
 abbrev pub MessagesTell : World → Type 0
 MessagesTell w = (s : Sent) → StandsIn s w.messages → TellsNoted w.history s.message
 
-grown-tell : (messages : List Sent) (history : List Note) (from : ℕ) (sends : List Outgoing) (noted : List Note) → ((s : Sent) → StandsIn s messages → TellsNoted history s.message) → AllTell noted sends
+grown-tell : (messages : List Sent) (history : List Note) (from : ℕ) (sends : List Outgoing) (noted : List Note) → ((s : Sent) → StandsIn s messages → TellsNoted history s.message) → Each (IsTold noted) sends
     → (s : Sent) → StandsIn s (messages ++ sent_by from sends) → TellsNoted (history ++ noted) s.message
 grown-tell messages history from sends noted old new s h = elim (sent-back messages from sends s h) [
   | inl a ↦ tells-more history (history ++ noted) s.message (λ n k. StandsIn-left history noted n k) (old s a)

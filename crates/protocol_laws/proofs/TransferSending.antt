@@ -1,34 +1,56 @@
 -- Why a node sends a message that speaks of entries: each effect's sends.
-use Rattle.std.proofs.Common.{◌≡◌, ℕ, ◌-◌, ◌≤◌, Bool, true, false, cond, ◌==◌, nat_lt, List, [], ◌∷◌, ◌++◌, filter, Option, Some, None, ◌⊎◌, inl, inr, sym, ◌∙◌, ap, subst, refl, eqb-true}
+use Rattle.std.proofs.Common.{◌≡◌, ℕ, ◌-◌, ◌≤◌, Bool, true, false, cond, ◌==◌, nat_lt, List, [], ◌∷◌, ◌++◌, filter, Option, Some, None, ◌⊎◌, inl, inr, sym, ◌∙◌, ap, subst, refl, eqb-true, arith, ◌<◌, ◌+◌}
 use Rattle.tcs_terms.specs.declared.ids.TxId.{TxId}
 use Rattle.tcs_terms.specs.declared.inputs.Input.{Input}
-use Rattle.tcs_terms.specs.declared.inputs.Input.TheVariants.{Deliver}
+use Rattle.tcs_terms.specs.declared.inputs.Input.TheVariants.{Deliver, Nudge}
 use Rattle.tcs_terms.specs.declared.logs.Row.{Row}
 use Rattle.tcs_terms.specs.declared.messages.Message.{Message}
-use Rattle.tcs_terms.specs.declared.messages.Message.TheVariants.{Prepare, PrepareAck, Accept, AcceptAck, ProbeAck, NewConfig, NewState, Last, At, Cas, StatePiece}
+use Rattle.tcs_terms.specs.declared.messages.Message.TheVariants.{Prepare, PrepareAck, Accept, AcceptAck, ProbeAck, NewConfig, NewState, Last, At, Cas, StatePiece, DecisionFor, Probe, ConfigChange, Stored, OutcomeOf, Refused}
 use Rattle.tcs_terms.specs.declared.messages.Outgoing.{Outgoing}
 use Rattle.tcs_terms.specs.Logs.{same_txn}
 use Rattle.tcs_terms.specs.Places.{Membership}
 use Rattle.tcs_terms.specs.Preparations.{Preparation}
 use Rattle.tcs_laws.specs.Certification.{Tests}
-use Rattle.protocol.specs.Cases.{accept}
-use Rattle.protocol.specs.Coordination.{first_entry}
+use Rattle.protocol.specs.Cases.{accept, asked, new_case, send_case, decision_of}
+use Rattle.protocol.specs.Coordination.{first_entry, resend, ask_leader}
 use Rattle.protocol.specs.Invariant.Logs.{entries_of}
 use Rattle.protocol.specs.Invariant.Time.{StandsIn}
 use Rattle.protocol.specs.Log.{row_at, holds_txn, has_at, put_entry, accepted, undecided}
 use Rattle.protocol.specs.Outcomes.{Out, to}
 use Rattle.protocol.specs.Pieces.{piece_count, piece_of}
 use Rattle.protocol.specs.Probing.{ask_stage, proposed}
-use Rattle.protocol.specs.Records.{Part, Case, NodeRecord}
+use Rattle.protocol.specs.Records.{Part, Case, NodeRecord, Coordinator}
 use Rattle.protocol.specs.ShardRules.{is_leader, is_following, state_to}
 use Rattle.protocol.specs.Views.{view_of, followers}
 use Rattle.protocol.proofs.Lists.{StandsIn-append, find-StandsIn}
-use Rattle.protocol_laws.specs.Effect.{Effect, OpenPart}
+use Rattle.protocol_laws.specs.Effect.{Effect, OpenPart, GoesOn}
 use Rattle.protocol_laws.specs.Effect.Effect.{Rests, Certifies, TakesOver, Nudges, Moves, Lowers, Reads, Asks, AnswersAgain, Appends, Votes, Acknowledges, Changes, Learns, Keeps, Accepts, Marks, Promises, Chooses, FindsLow, Leads, Follows, Gathers, FollowsPieces}
-use Rattle.protocol_laws.proofs.Standing.{StandsIn-right, StandsIn-map, IsPiece, flat_map-StandsIn}
+use Rattle.protocol_laws.proofs.Standing.{StandsIn-right, StandsIn-map, IsPiece, flat_map-StandsIn, IsMapped, map-StandsIn, range-StandsIn}
 use Rattle.protocol_laws.proofs.TransferEnters.{BecomesLeader}
-use Rattle.protocol_laws.proofs.TransferSends.{SaysNothing, SayNothing, one-says, append-says, accept-says, AsksIn, AsksAgainFor, new_case-says, resend-says, ask_leader-says, ask_stage-says, notices-says, sees-says, hears-says, goes_on-says, IsPieceOf, state-says}
 use Rattle.protocol_laws.proofs.SameTxn.{same_txn-eq}
+use Rattle.protocol_laws.proofs.Sends.{Each, each-one, each-both, each-case, each-accept, each-resend, each-ask_leader, each-sees, each-decision, each-goes_on, each-stage, each-hears, each-state, each-notice}
+use Rattle.tcs_terms.specs.Payloads.{Accesses}
+use Rattle.protocol.specs.Records.Role.{Leader}
+
+-- a message that says nothing of entries in a log
+abbrev pub SaysNothing : Message → Type 0
+SaysNothing (Prepare epoch txn shards payload) = Unit {0}
+SaysNothing (PrepareAck shard epoch entry) = ⊥
+SaysNothing (Accept epoch entry) = ⊥
+SaysNothing (AcceptAck shard epoch slot txn) = ⊥
+SaysNothing (DecisionFor epoch slot txn commit) = Unit {0}
+SaysNothing (Probe epoch) = Unit {0}
+SaysNothing (ProbeAck epoch state) = Unit {0}
+SaysNothing (NewConfig config) = Unit {0}
+SaysNothing (NewState config rows) = ⊥
+SaysNothing (ConfigChange config) = Unit {0}
+SaysNothing (Last shard) = Unit {0}
+SaysNothing (At shard epoch) = Unit {0}
+SaysNothing (Cas config) = Unit {0}
+SaysNothing (Stored config) = Unit {0}
+SaysNothing (OutcomeOf txn decision) = Unit {0}
+SaysNothing (Refused kind why mark) = Unit {0}
+SaysNothing (StatePiece config piece pieces rows) = ⊥
 
 -- a part takes the vote of a PREPARE_ACK, or keeps the one that it has
 pub record VotesNow (node : NodeRecord) (input : Input) (view : Membership) (entry : Preparation) : Type 0 where
@@ -80,73 +102,73 @@ accepted-has rows entry = by (has_at rows entry.slot entry.txn) refl
       of_txn = refl;
     }
 
--- an only message
-only : (dest : ℕ) (m : Message) (o : Outgoing) → StandsIn (to dest m) (o ∷ []) → o.message ≡ m
-only dest m o (inl e) = sym (ap (λ (q : Outgoing). q.message) e)
-only dest m o (inr s) = absurd s
+-- the same of a message as it is sent
+abbrev Why : NodeRecord → Input → NodeRecord → Outgoing → Type 0
+Why node input new o = Sending node input new o.to o.message
 
-says : (node : NodeRecord) (input : Input) (new : NodeRecord) (dest : ℕ) (m : Message) (os : List Outgoing) → SayNothing os → StandsIn (to dest m) os → Sending node input new dest m
-says node input new dest m os h s = Says m (h (to dest m) s)
+-- a new case has no voted part
+none_voted : (case : Case) (shards : List ℕ) (payload : Option Accesses) (p : Part) (x : Preparation) → case ≡ new_case shards payload → StandsIn p case.parts → p.entry ≡ Some x → ⊥
+none_voted case shards payload p x e s voted =
+    let m : IsMapped asked shards p = map-StandsIn asked shards p (subst (λ (c : Case). StandsIn p c.parts) e s) in
+    let none : None ≡ Some x = ap (λ (q : Part). q.entry) (sym m.is) ∙ voted in
+    cc none
 
-one : (node : NodeRecord) (input : Input) (new : NodeRecord) (dest : ℕ) (m : Message) (other : ℕ) (k : Message) → SaysNothing k → StandsIn (to dest m) (to other k ∷ []) → Sending node input new dest m
-one node input new dest m other k h s = Says m (one-says (to other k) h (to dest m) s)
+-- what is sent of a new case, of an old one, and to a new leader
+new_case-why : (node : NodeRecord) (input : Input) (new : NodeRecord) (txn : TxId) (case : Case) (shards : List ℕ) (payload : Option Accesses) → case ≡ new_case shards payload → Each (Why node input new) (send_case node.coordinator.views txn case)
+new_case-why node input new txn case shards payload e =
+    each-case (Why node input new) node.coordinator.views txn case (λ shard v q. Says _ tt) (λ p x v name s voted sees follower. absurd (none_voted case shards payload p x e s voted))
 
-again : (node : NodeRecord) (input : Input) (new : NodeRecord) (dest : ℕ) (m : Message) → SaysNothing m ⊎ AsksAgainFor node.coordinator (to dest m) → Sending node input new dest m
-again node input new dest m (inl n) = Says m n
-again node input new dest m (inr a) =
-    subst (λ (k : Message). Sending node input new dest k) (sym a.asks.asks.is)
-    (AsksAgain a.txn a.case a.asks.part a.asks.asks.config a.asks.entry a.open_case a.asks.there a.asks.has a.asks.asks.sees a.asks.asks.follower)
+old_case-why : (node : NodeRecord) (input : Input) (new : NodeRecord) (txn : TxId) (case : Case) → StandsIn (txn, case) node.coordinator.cases → Each (Why node input new) (send_case node.coordinator.views txn case)
+old_case-why node input new txn case open_case =
+    each-case (Why node input new) node.coordinator.views txn case (λ shard v q. Says _ tt) (λ p x v name s voted sees follower. AsksAgain txn case p v x open_case s voted sees follower)
 
-lead : (node : NodeRecord) (input : Input) (new : NodeRecord) (b : BecomesLeader node input new) (dest : ℕ) (m : Message) → (m ≡ NewState b.config node.rows) ⊎ IsPieceOf b.config node.rows (to dest m) → Sending node input new dest m
-lead node input new b dest m (inl e) = subst (λ (k : Message). Sending node input new dest k) (sym e) (SendsWhole b)
-lead node input new b dest m (inr p) = subst (λ (k : Message). Sending node input new dest k) (sym p.is) (SendsPiece b p.number p.some p.few)
+ask_leader-why : (node : NodeRecord) (input : Input) (new : NodeRecord) (c : Coordinator) (config : Membership) → Each (Why node input new) (ask_leader c config)
+ask_leader-why node input new c config = each-ask_leader (Why node input new) c config (λ txn case s. Says _ tt)
 
--- a message that a node sends is one of these
-pub sending_by : (tests : Tests) (version : ℕ) (node : NodeRecord) (input : Input) (out : Out NodeRecord) → Effect tests version node input out → (dest : ℕ) (m : Message) → StandsIn (to dest m) out.sends → Sending node input out.kept dest m
-sending_by tests version node input out (Rests i answer notices n) dest m s = says node i node dest m notices (notices-says notices n) s
-sending_by tests version node input out (Certifies payload l case e) dest m s = says node _ _ dest m _ (new_case-says node.coordinator.views _ case _ (ap (λ (c : Case). c.parts) e)) s
-sending_by tests version node input out (TakesOver txn row found undecided_yet none may case e) dest m s = says node _ _ dest m _ (new_case-says node.coordinator.views txn case _ (ap (λ (c : Case). c.parts) e)) s
-sending_by tests version node input out Nudges dest m s = elim (StandsIn-append _ (ask_stage node.prober) (to dest m) s) [
-  | inl a ↦ again node _ _ dest m (resend-says node.coordinator (to dest m) a)
-  | inr b ↦ Says m (ask_stage-says node.prober (to dest m) b)
-]
-sending_by tests version node input out (Moves shard want) dest m s = one node _ _ dest m 0 (Last shard) tt s
-sending_by tests version node input out (Lowers shard want epoch probed low e p q) dest m s = one node _ _ dest m 0 (At shard (probed.epoch - 1)) tt s
-sending_by tests version node input out (Reads name l) dest m s = absurd s
-sending_by tests version node input out (Asks shard) dest m s = one node _ _ dest m 0 (Last shard) tt s
-sending_by tests version node input out (AnswersAgain from epoch txn shards part row leads at among found) dest m s =
-    subst (λ (k : Message). Sending node (Deliver from (Prepare epoch txn shards part)) node dest k) (ap (λ n. PrepareAck node.shard n row.entry) at ∙ only dest m _ s)
-    (Answers row.entry leads refl (StandsIn-map (λ (r : Row). r.entry) node.rows row (find-StandsIn (λ (r : Row). same_txn r.entry.txn txn) node.rows row found).0))
-sending_by tests version node input out (Appends from epoch txn shards part leads at among found full entry e) dest m s =
-    subst (λ (k : Message). Sending node (Deliver from (Prepare epoch txn shards part)) (record node { rows = node.rows ++ undecided entry ∷ [] }) dest k) (ap (λ n. PrepareAck node.shard n entry) at ∙ only dest m _ s)
-    (Answers entry leads refl (StandsIn-map (λ (r : Row). r.entry) (node.rows ++ undecided entry ∷ []) (undecided entry) (StandsIn-right node.rows (undecided entry ∷ []) (undecided entry) (inl refl))))
-sending_by tests version node input out (Votes from shard epoch entry case part view opened at leads fits coordinator goes) dest m s =
-    elim (goes_on-says node.coordinator entry.txn _ (accept (first_entry part.entry entry) part.acks (Some view)) coordinator goes (to dest m) s) [
-      | inl a ↦ (let k : AsksIn (Some view) (first_entry part.entry entry) (to dest m) = accept-says (first_entry part.entry entry) part.acks (Some view) (to dest m) a in
-          let same : view ≡ k.config = cc k.sees in
-          subst (λ (q : Message). Sending node (Deliver from (PrepareAck shard epoch entry)) (record node { coordinator = coordinator.kept }) dest q) (ap (λ (v : Membership). Accept v.epoch (first_entry part.entry entry)) same ∙ sym k.is)
-          (AsksVoted view (first_entry part.entry entry) (subst (λ (v : Membership). StandsIn dest (followers v)) (sym same) k.follower)
-          (record { from = from; shard = shard; answered = entry; case = case; part = part; delivers = ap (λ n. Deliver from (PrepareAck shard n entry)) (sym at); is_open = opened; is = refl })))
-      | inr b ↦ Says m b
-    ]
-sending_by tests version node input out (Acknowledges from shard epoch slot txn case part view opened at follows voted coordinator goes) dest m s = elim (goes_on-says node.coordinator txn _ [] coordinator goes (to dest m) s) [
-  | inl a ↦ absurd a
-  | inr b ↦ Says m b
-]
-sending_by tests version node input out (Changes from config newer) dest m s = says node _ _ dest m _ (ask_leader-says node.coordinator config) s
-sending_by tests version node input out (Learns from config coordinator sent stage asked sees hears) dest m s =
-    says node _ _ dest m _ (append-says sent asked (sees-says node.coordinator config coordinator sent sees) (hears-says node.name config _ node.prober stage asked hears)) s
-sending_by tests version node input out (Keeps from txn decision home seq) dest m s = absurd s
-sending_by tests version node input out (Accepts from epoch entry follows at taken) dest m s =
-    subst (λ (k : Message). Sending node (Deliver from (Accept epoch entry)) (record node { rows = accepted node.rows entry }) dest k) (ap (λ n. AcceptAck node.shard n entry.slot entry.txn) at ∙ only dest m _ s)
-    (Holds entry.slot entry.txn follows refl (accepted-has node.rows entry))
-sending_by tests version node input out (Marks from epoch slot txn commit l has) dest m s = absurd s
-sending_by tests version node input out (Promises from epoch l) dest m s = one node _ _ dest m from (ProbeAck epoch node.state) tt s
-sending_by tests version node input out (Chooses from state shard want epoch probed low e a l) dest m s = one node _ _ dest m 0 (Cas (proposed node.name shard epoch want from)) tt s
-sending_by tests version node input out (FindsLow from state shard want epoch probed low e a l) dest m s = absurd s
-sending_by tests version node input out (Leads from config shard role promised leader) dest m s =
-    let r : IsPiece (state_to version config node.rows) (followers config) (to dest m) = flat_map-StandsIn (state_to version config node.rows) (followers config) (to dest m) s in
-    lead node (Deliver from (NewConfig config)) _ (record { from = from; config = config; delivers = refl; shard = shard; role = role; promised = promised; leader = leader; is = refl }) dest m (state-says version config node.rows r.source (to dest m) r.within)
-sending_by tests version node input out (Follows from config rows v may) dest m s = absurd s
-sending_by tests version node input out (Gathers from config number pieces rows new v may takes e w) dest m s = absurd s
-sending_by tests version node input out (FollowsPieces from config number pieces rows new v may takes e whole) dest m s = absurd s
+-- what a case sends as it goes on
+goes_on-why : (node : NodeRecord) (input : Input) (new : NodeRecord) (c : Coordinator) (txn : TxId) (case : Case) (sends : List Outgoing) (out : Out Coordinator) → GoesOn c txn case sends out → Each (Why node input new) sends → Each (Why node input new) out.sends
+goes_on-why node input new c txn case sends out g a = each-goes_on (Why node input new) c txn case sends out g a (λ complete noted.
+    each-decision (Why node input new) c.views txn case.parts (decision_of case.parts) (λ p x v name b d e f. Says _ tt) (Says _ tt))
+
+-- why a node sends each message that it sends
+pub sending_by : (tests : Tests) (version : ℕ) (node : NodeRecord) (input : Input) (out : Out NodeRecord) → Effect tests version node input out → Each (Why node input out.kept) out.sends
+sending_by tests version node input out (Rests i answer notices n) = each-notice (Why node i node) notices n (λ name kind mark why. Says _ tt)
+sending_by tests version node input out (Certifies payload l case e) = new_case-why node _ _ _ case _ _ e
+sending_by tests version node input out (TakesOver txn row found undecided_yet none may case e) = new_case-why node _ _ txn case _ _ e
+sending_by tests version node input out Nudges =
+    each-both (Why node Nudge node) (resend node.coordinator) (ask_stage node.prober) (each-resend (Why node Nudge node) node.coordinator (λ txn case s. old_case-why node Nudge node txn case s))
+    (each-stage (Why node Nudge node) node.prober (λ name epoch. Says _ tt) (λ shard. Says _ tt) (λ shard epoch. Says _ tt) (λ config e. Says _ tt))
+sending_by tests version node input out (Moves shard want) = each-one (Why node _ _) _ (Says _ tt)
+sending_by tests version node input out (Lowers shard want epoch probed low e p q) = each-one (Why node _ _) _ (Says _ tt)
+sending_by tests version node input out (Reads name l) = λ o s. absurd s
+sending_by tests version node input out (Asks shard) = each-one (Why node _ _) _ (Says _ tt)
+sending_by tests version node input out (AnswersAgain from epoch txn shards part row leads at among found) = each-one (Why node _ _) _
+    (subst (λ n. Sending node (Deliver from (Prepare epoch txn shards part)) node from (PrepareAck node.shard n row.entry)) at
+    (Answers row.entry leads refl (StandsIn-map (λ (r : Row). r.entry) node.rows row (find-StandsIn (λ (r : Row). same_txn r.entry.txn txn) node.rows row found).0)))
+sending_by tests version node input out (Appends from epoch txn shards part leads at among found full entry e) = each-one (Why node _ _) _
+    (subst (λ n. Sending node (Deliver from (Prepare epoch txn shards part)) (record node { rows = node.rows ++ undecided entry ∷ [] }) from (PrepareAck node.shard n entry)) at
+    (Answers entry leads refl (StandsIn-map (λ (r : Row). r.entry) (node.rows ++ undecided entry ∷ []) (undecided entry) (StandsIn-right node.rows (undecided entry ∷ []) (undecided entry) (inl refl)))))
+sending_by tests version node input out (Votes from shard epoch entry case part view opened at leads fits coordinator goes) =
+    goes_on-why node _ _ node.coordinator entry.txn _ _ coordinator goes (each-accept (Why node _ _) (first_entry part.entry entry) part.acks view (λ name follower. AsksVoted view (first_entry part.entry entry) follower
+    (record { from = from; shard = shard; answered = entry; case = case; part = part; delivers = ap (λ n. Deliver from (PrepareAck shard n entry)) (sym at); is_open = opened; is = refl })))
+sending_by tests version node input out (Acknowledges from shard epoch slot txn case part view opened at follows voted coordinator goes) = goes_on-why node _ _ node.coordinator txn _ _ coordinator goes (λ o s. absurd s)
+sending_by tests version node input out (Changes from config newer) = ask_leader-why node _ _ node.coordinator config
+sending_by tests version node input out (Learns from config coordinator sent stage asked sees hears) =
+    each-both (Why node _ _) sent asked (each-sees (Why node _ _) node.coordinator config coordinator sent sees (ask_leader-why node _ _ node.coordinator config))
+    (each-hears (Why node _ _) node.name config _ node.prober stage asked hears (λ name epoch. Says _ tt) (Says _ tt))
+sending_by tests version node input out (Keeps from txn decision home seq) = λ o s. absurd s
+sending_by tests version node input out (Accepts from epoch entry follows at taken) = each-one (Why node _ _) _
+    (subst (λ n. Sending node (Deliver from (Accept epoch entry)) (record node { rows = accepted node.rows entry }) from (AcceptAck node.shard n entry.slot entry.txn)) at
+    (Holds entry.slot entry.txn follows refl (accepted-has node.rows entry)))
+sending_by tests version node input out (Marks from epoch slot txn commit l has) = λ o s. absurd s
+sending_by tests version node input out (Promises from epoch l) = each-one (Why node _ _) _ (Says _ tt)
+sending_by tests version node input out (Chooses from state shard want epoch probed low e a l) = each-one (Why node _ _) _ (Says _ tt)
+sending_by tests version node input out (FindsLow from state shard want epoch probed low e a l) = λ o s. absurd s
+sending_by tests version node input out (Leads from config shard role promised leader) =
+    each-state (Why node _ _) version config node.rows (λ name. SendsWhole becomes) (λ name k s. (let r : (1 ≤ k) × (k < 1 + piece_count node.rows) = range-StandsIn 1 (piece_count node.rows) k s in SendsPiece becomes k r.0 (omega (arith, r.1))))
+  where
+    becomes : BecomesLeader node (Deliver from (NewConfig config)) (record node { role = Leader config; state = config.epoch })
+    becomes = record { from = from; config = config; delivers = refl; shard = shard; role = role; promised = promised; leader = leader; is = refl }
+sending_by tests version node input out (Follows from config rows v may) = λ o s. absurd s
+sending_by tests version node input out (Gathers from config number pieces rows new v may takes e w) = λ o s. absurd s
+sending_by tests version node input out (FollowsPieces from config number pieces rows new v may takes e whole) = λ o s. absurd s

@@ -24,8 +24,7 @@ use Rattle.protocol_laws.proofs.Lasting.{one_node, initial-on}
 use Rattle.protocol_laws.proofs.Came.{message_back, Acting}
 use Rattle.protocol_laws.proofs.TransferEnters.{BecomesLeader, LeadsAs, Leading, leading_of}
 use Rattle.protocol_laws.proofs.TransferInitial.{no_initial, initial_now}
-use Rattle.protocol_laws.proofs.TransferSends.{SaysNothing, SayNothing, one-says, append-says, map-says, notices-says}
-use Rattle.protocol_laws.proofs.TransferSending.{Sending, sending_by}
+use Rattle.protocol_laws.proofs.TransferSending.{Sending, sending_by, SaysNothing}
 use Rattle.protocol_laws.proofs.TransferSending.Sending.{Says, SendsWhole, SendsPiece}
 use Rattle.protocol_laws.proofs.ServiceSays.{ServiceSays}
 use Rattle.protocol_laws.proofs.ServiceSays.ServiceSays.{TellsStored, TellsChange, Refuses}
@@ -46,7 +45,7 @@ pub sent_how : (tests : Tests) (setup : Deployment) (t : Moment) (event : Event)
     → WasSent t from dest m ⊎ SentNow tests setup t event h from dest m
 sent_how tests setup t event h turn from dest m speaks s = elim (message_back tests setup t event h turn from dest m s) [
   | inl k ↦ inl k
-  | inr (inl k) ↦ inr (record { acting = k.acting; sender = k.sender; why = sending_by tests setup.version k.acting.node k.acting.input k.acting.out k.acting.effect dest m k.among })
+  | inr (inl k) ↦ inr (record { acting = k.acting; sender = k.sender; why = sending_by tests setup.version k.acting.node k.acting.input k.acting.out k.acting.effect (to dest m) k.among })
   | inr (inr k) ↦ absurd (speaks (served-says h.after.configs m k))
 ]
 
