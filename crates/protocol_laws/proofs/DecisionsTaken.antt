@@ -29,6 +29,9 @@ use Rattle.protocol_laws.proofs.TransactionsPlaces.{view_is, IsView}
 use Rattle.protocol_laws.proofs.TransferConfigs.{member_shard}
 use Rattle.protocol.specs.Invariant.Entries.{CaseHolds}
 use Rattle.protocol_laws.proofs.TransactionsActing.{IsActing}
+use Rattle.protocol_laws.proofs.Sends.{Each, each-decision, each-goes_on}
+use Rattle.tcs_terms.specs.Preparations.{Preparation}
+use Rattle.tcs_terms.specs.Places.{Membership}
 
 -- what a message to a node tells of decisions agrees with decisions that were taken
 abbrev pub MessageAgrees : Moment → ℕ → Message → Type 0
@@ -50,16 +53,9 @@ MessageAgrees t name (OutcomeOf txn decision) = WasNoted t (notes.Decide txn dec
 MessageAgrees t name (Refused kind why mark) = Unit {0}
 MessageAgrees t name (StatePiece config number pieces rows) = (r : Row) → StandsIn r rows → RowHolds t config.shard config.epoch r
 
--- each of these messages agrees
-abbrev pub SendsAgree : Moment → List Outgoing → Type 0
-SendsAgree t sends = (o : Outgoing) → StandsIn o sends → MessageAgrees t o.to o.message
-
-pub agree_both : (t : Moment) (xs ys : List Outgoing) → SendsAgree t xs → SendsAgree t ys → SendsAgree t (xs ++ ys)
-agree_both t xs ys f g o s = elim (StandsIn-append xs ys o s) [ inl r ↦ f o r | inr r ↦ g o r ]
-
-pub agree_one : (t : Moment) (one : Outgoing) → MessageAgrees t one.to one.message → SendsAgree t (one ∷ [])
-agree_one t one k o (inl e) = subst (λ m. MessageAgrees t m.to m.message) (sym e) k
-agree_one t one k o (inr s) = absurd s
+-- the same of a message as it is sent
+abbrev pub Agrees : Moment → Outgoing → Type 0
+Agrees t o = MessageAgrees t o.to o.message
 
 -- A case that went on, whose parts hold: all that is known when it is complete.
 pub record IsReady (setup : Deployment) (t u : Moment) (node : NodeRecord) (txn : TxId) (case : Case) : Type 0 where
@@ -87,43 +83,30 @@ ready_decided tests setup t u node input out txn case a r complete = record {
   gives = refl;
 }
 
--- what the members of a part's view are told
-told_members : (tests : Tests) (setup : Deployment) (t u : Moment) (node : NodeRecord) (input : Input) (out : Out NodeRecord) (txn : TxId) (decision : Decision) (p : Part) → IsActing tests setup t u node input out → IsAcceptedPart t node.coordinator.views txn p
-    → WasNoted u (notes.Decide txn decision) → SendsAgree u (tell_members txn (commits decision) p.entry (view_of node.coordinator.views p.shard))
-told_members tests setup t u node input out txn decision p a q noted =
-    subst (λ x. SendsAgree u (tell_members txn (commits decision) x (view_of node.coordinator.views p.shard))) (sym q.voted)
-    (subst (λ x. SendsAgree u (tell_members txn (commits decision) (Some q.entry) x)) (sym q.sees) tells)
-  where
-    tells : SendsAgree u (tell_members txn (commits decision) (Some q.entry) (Some q.view))
-    tells o s =
-        let m : IsMapped (λ node. to node (DecisionFor q.view.epoch q.entry.slot txn (commits decision))) q.view.members o =
-        map-StandsIn (λ node. to node (DecisionFor q.view.epoch q.entry.slot txn (commits decision))) q.view.members o s in
-        let accepted : Accepted u q.view q.entry = accepted-on t u q.view q.entry a.goes.onward q.accepted in
-        subst (λ x. MessageAgrees u x.to x.message) (sym m.is) (λ at i e. record {
-          decision = decision;
-          noted = noted;
-          sense = refl;
-          entry = q.entry;
-          config = q.view;
-          of_shard = sym (member_shard setup u a.configurations q.view at accepted.stored i (subst (λ x. StandsIn x q.view.members) (sym e) m.there));
-          until = le_refl q.view.epoch;
-          accepted = accepted;
-          at_slot = refl;
-          of_txn = q.of_txn;
-        })
+-- what a member of a part's view is told
+told_member : (tests : Tests) (setup : Deployment) (t u : Moment) (node : NodeRecord) (input : Input) (out : Out NodeRecord) (txn : TxId) (decision : Decision) (p : Part) (x : Preparation) (v : Membership) (name : ℕ) → IsActing tests setup t u node input out
+    → IsAcceptedPart t node.coordinator.views txn p → WasNoted u (notes.Decide txn decision) → p.entry ≡ Some x → view_of node.coordinator.views p.shard ≡ Some v → StandsIn name v.members → MessageAgrees u name (DecisionFor v.epoch x.slot txn (commits decision))
+told_member tests setup t u node input out txn decision p x v name a q noted voted sees member at i e =
+    let same : q.entry ≡ x = cc (q.voted, voted) in
+    let view : q.view ≡ v = cc (q.sees, sees) in
+    let accepted : Accepted u v x = accepted-on t u v x a.goes.onward (subst (λ w. Accepted t w x) view (subst (λ y. Accepted t q.view y) same q.accepted)) in
+    record {
+      decision = decision;
+      noted = noted;
+      sense = refl;
+      entry = x;
+      config = v;
+      of_shard = sym (member_shard setup u a.configurations v at accepted.stored i (subst (λ n. StandsIn n v.members) (sym e) member));
+      until = le_refl v.epoch;
+      accepted = accepted;
+      at_slot = refl;
+      of_txn = subst (λ (y : Preparation). y.txn ≡ txn) same q.of_txn;
+    }
 
-pub ready_told : (tests : Tests) (setup : Deployment) (t u : Moment) (node : NodeRecord) (input : Input) (out : Out NodeRecord) (txn : TxId) (case : Case) → IsActing tests setup t u node input out → IsReady setup t u node txn case
-    → is_complete node.coordinator.views case ≡ true → WasNoted u (notes.Decide txn (decision_of case.parts)) → SendsAgree u (tell_decision node.coordinator.views txn case.parts (decision_of case.parts))
-unfolding tell_decision
-ready_told tests setup t u node input out txn case a r complete noted =
-    agree_both u (flat_map members case.parts) (to txn.home (OutcomeOf txn (decision_of case.parts)) ∷ [])
-    (λ o s.
-    let i : IsPiece members case.parts o = flat_map-StandsIn members case.parts o s in
-    told_members tests setup t u node input out txn (decision_of case.parts) i.source a (ready_part tests setup t u node input out txn case i.source a r complete i.among) noted o i.within)
-    (agree_one u (to txn.home (OutcomeOf txn (decision_of case.parts))) noted)
-  where
-    members : Part → List Outgoing
-    members p = tell_members txn (commits (decision_of case.parts)) p.entry (view_of node.coordinator.views p.shard)
+ready_told : (tests : Tests) (setup : Deployment) (t u : Moment) (node : NodeRecord) (input : Input) (out : Out NodeRecord) (txn : TxId) (case : Case) → IsActing tests setup t u node input out → IsReady setup t u node txn case
+    → is_complete node.coordinator.views case ≡ true → WasNoted u (notes.Decide txn (decision_of case.parts)) → Each (Agrees u) (tell_decision node.coordinator.views txn case.parts (decision_of case.parts))
+ready_told tests setup t u node input out txn case a r complete noted = each-decision (Agrees u) node.coordinator.views txn case.parts (decision_of case.parts)
+    (λ p x v name there voted sees member. told_member tests setup t u node input out txn (decision_of case.parts) p x v name a (ready_part tests setup t u node input out txn case p a r complete there) noted voted sees member) noted
 
 -- what a case that goes on notes is decided
 pub goes_on_decided : (tests : Tests) (setup : Deployment) (t u : Moment) (node : NodeRecord) (input : Input) (new : Out NodeRecord) (txn : TxId) (case : Case) (sends : List Outgoing) (out : Out Coordinator) (other : TxId) (decision : Decision)
@@ -137,8 +120,6 @@ goes_on_decided tests setup t u node input new txn case sends _ other decision a
 
 -- what a case that goes on tells agrees
 pub goes_on_told : (tests : Tests) (setup : Deployment) (t u : Moment) (node : NodeRecord) (input : Input) (new : Out NodeRecord) (txn : TxId) (case : Case) (sends : List Outgoing) (out : Out Coordinator)
-    → IsActing tests setup t u node input new → IsReady setup t u node txn case → GoesOn node.coordinator txn case sends out → ((note : Note) → StandsIn note out.notes → WasNoted u note) → SendsAgree u sends → SendsAgree u out.sends
-goes_on_told tests setup t u node input new txn case sends _ a r (Waiting h) noted k = k
-goes_on_told tests setup t u node input new txn case sends _ a r (Decides h) noted k =
-    agree_both u sends (tell_decision node.coordinator.views txn case.parts (decision_of case.parts)) k
-    (ready_told tests setup t u node input new txn case a r h (noted (notes.Decide txn (decision_of case.parts)) (inl refl)))
+    → IsActing tests setup t u node input new → IsReady setup t u node txn case → GoesOn node.coordinator txn case sends out → ((note : Note) → StandsIn note out.notes → WasNoted u note) → Each (Agrees u) sends → Each (Agrees u) out.sends
+goes_on_told tests setup t u node input new txn case sends out a r g noted k = each-goes_on (Agrees u) node.coordinator txn case sends out g k (λ complete told.
+    ready_told tests setup t u node input new txn case a r complete (noted (notes.Decide txn (decision_of case.parts)) (subst (λ ns. StandsIn (notes.Decide txn (decision_of case.parts)) ns) (sym told) (inl refl))))

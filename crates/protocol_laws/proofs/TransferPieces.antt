@@ -16,7 +16,7 @@ use Rattle.protocol.specs.Views.{same_config}
 use Rattle.protocol.specs.Invariant.Time.{StandsIn}
 use Rattle.protocol.proofs.Lists.{StandsIn-append}
 use Rattle.protocol_laws.proofs.Ascending.{tail-ascends, tail-above}
-use Rattle.protocol_laws.proofs.Standing.{filter-StandsIn}
+use Rattle.protocol_laws.proofs.Standing.{filter-StandsIn, take-StandsIn, drop-StandsIn}
 
 abbrev numbers : List Piece → List ℕ
 numbers kept = map (λ (p : Piece). p.number) kept
@@ -100,3 +100,7 @@ same_config-is a b h =
   where
     record_is : (a b : Membership) → a.shard ≡ b.shard → a.epoch ≡ b.epoch → a.members ≡ b.members → a.leader ≡ b.leader → a.by ≡ b.by → a ≡ b
     record_is a b p q r s t = λ i. record { shard = p i; epoch = q i; members = r i; leader = s i; by = t i }
+
+-- a row of a piece is one of the rows
+pub piece_row : (rows : List Row) (number : ℕ) (r : Row) → StandsIn r (piece_of rows number) → StandsIn r rows
+piece_row rows number r s = drop-StandsIn (MAX_PIECE_ROWS * (number - 1)) rows r (take-StandsIn MAX_PIECE_ROWS (drop (MAX_PIECE_ROWS * (number - 1)) rows) r s)
