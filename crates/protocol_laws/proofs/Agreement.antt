@@ -40,7 +40,7 @@ same_decision (p ∷ ps) (q ∷ qs) h e =
     go false false h rest shard entry = rest
 
 -- a transaction begins with one payload
-pub one_payload : (t : Moment) (txn : TxId) (a b : Accesses) → IsBegun t txn a → IsBegun t txn b → a ≡ b
+one_payload : (t : Moment) (txn : TxId) (a b : Accesses) → IsBegun t txn a → IsBegun t txn b → a ≡ b
 one_payload t txn a b p q = cc (p.first, q.first)
 
 -- what is decided has begun

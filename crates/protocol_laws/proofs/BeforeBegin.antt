@@ -30,7 +30,7 @@ first_of_each-there (t ∷ ts) txn (inr s) = go (same_txn t txn) refl (first_of_
     go true e r = inl (sym (same_txn-eq t txn e))
     go false e r = inr (StandsIn-filter (λ u. not (same_txn t u)) (first_of_each ts) txn r (ap not e))
 
-pub noted-order : (h : List Note) (txn : TxId) → StandsIn (Decide txn Commit) h → StandsIn txn (order_of h)
+noted-order : (h : List Note) (txn : TxId) → StandsIn (Decide txn Commit) h → StandsIn txn (order_of h)
 noted-order h txn s = first_of_each-there _ txn (commit-told h txn s)
 
 -- a history, cut where a transaction begins
@@ -40,7 +40,7 @@ before_begin-front h txn =
     record { rest = drop n h; is = sym (take-append-drop n h) }
 
 -- it has not begun before
-pub before_begin-none : (h : List Note) (txn : TxId) → has_begun (before_begin h txn) txn ≡ false
+before_begin-none : (h : List Note) (txn : TxId) → has_begun (before_begin h txn) txn ≡ false
 before_begin-none [] txn = refl
 before_begin-none (n ∷ ns) txn = go (begins_with txn n) refl (before_begin-none ns txn)
   where

@@ -19,7 +19,7 @@ use Rattle.protocol_laws.proofs.ServesOf.{serves_of}
 use Rattle.protocol_laws.proofs.Standing.{slice_get-StandsIn}
 
 -- a message that has a number was sent
-pub message_of-StandsIn : (messages : List Sent) (number : ℕ) (sent : Sent) → message_of messages number ≡ Some sent → StandsIn sent messages
+message_of-StandsIn : (messages : List Sent) (number : ℕ) (sent : Sent) → message_of messages number ≡ Some sent → StandsIn sent messages
 message_of-StandsIn messages number sent h = go (number == 0) h
   where
     go : (b : Bool) → cond b None (slice_get messages (number - 1)) ≡ Some sent → StandsIn sent messages

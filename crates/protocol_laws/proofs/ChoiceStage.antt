@@ -30,11 +30,11 @@ use Rattle.protocol_laws.proofs.Standing.{StandsIn-map, StandsIn-filter}
 use Rattle.protocol_laws.proofs.Stored.{stored-some}
 
 -- what a probing stage holds
-pub record ProbesWell (t : Moment) (shard epoch : ℕ) (probed : Membership) (low : List ℕ) : Type 0 where
-  pub stored : IsStored t probed
-  pub of_shard : probed.shard ≡ shard
-  pub at : StandsAt t shard epoch probed.epoch
-  pub lows : (name : ℕ) → StandsIn name low → IsLow t epoch probed name
+record ProbesWell (t : Moment) (shard epoch : ℕ) (probed : Membership) (low : List ℕ) : Type 0 where
+  stored : IsStored t probed
+  of_shard : probed.shard ≡ shard
+  at : StandsAt t shard epoch probed.epoch
+  lows : (name : ℕ) → StandsIn name low → IsLow t epoch probed name
 
 probes-well : (setup : Deployment) (t : Moment) (node : NodeRecord) (shard : ℕ) (want : List ℕ) (epoch : ℕ) (probed : Membership) (low : List ℕ) → ConfigurationsHold setup t → IsNode t node → StageHolds t node.prober → node.prober ≡ Probing shard want epoch probed low
     → ProbesWell t shard epoch probed low

@@ -44,7 +44,7 @@ had node c =
     }
 
 -- P of each of a node's configurations, from P of each place
-pub each_config : (P : Membership → Type 0) (node : NodeRecord) → ((c : Membership) → StandsIn c node.coordinator.views → P c) → ((c : Membership) → StandsIn c (role_configs node.role) → P c)
+each_config : (P : Membership → Type 0) (node : NodeRecord) → ((c : Membership) → StandsIn c node.coordinator.views → P c) → ((c : Membership) → StandsIn c (role_configs node.role) → P c)
     → ((c : Membership) → StandsIn c (probed_configs node.prober) → P c) → ((c : Membership) → StandsIn c (gathered_configs node.gathering) → P c) → (c : Membership) → StandsIn c (configs_of node) → P c
 each_config P node fv fr fp fg c s = elim (StandsIn-append (node.coordinator.views ++ role_configs node.role ++ probed_configs node.prober) (gathered_configs node.gathering) c s) [
   | inr g ↦ fg c g
@@ -102,7 +102,7 @@ sees-had k from config c seen sends (Replaces n) s = changed_view-had k from (St
 sees-had k from config c seen sends (KeepsView n) s = inl s
 
 -- the views after an event
-pub views_had : (tests : Tests) (version : ℕ) (node : NodeRecord) (input : Input) (out : Out NodeRecord) → Effect tests version node input out
+views_had : (tests : Tests) (version : ℕ) (node : NodeRecord) (input : Input) (out : Out NodeRecord) → Effect tests version node input out
     → (c : Membership) → StandsIn c out.kept.coordinator.views → StandsIn c node.coordinator.views ⊎ Heard input c
 views_had tests version node input out (Rests i answer notices n) c s = inl s
 views_had tests version node input out (Certifies payload n case e) c s = inl s
@@ -130,7 +130,7 @@ views_had tests version node input out (Gathers from config number pieces rows g
 views_had tests version node input out (FollowsPieces from config number pieces rows gathering v m t g w) c s = inl s
 
 -- the configuration of the role after an event
-pub role_had : (tests : Tests) (version : ℕ) (node : NodeRecord) (input : Input) (out : Out NodeRecord) → Effect tests version node input out
+role_had : (tests : Tests) (version : ℕ) (node : NodeRecord) (input : Input) (out : Out NodeRecord) → Effect tests version node input out
     → (c : Membership) → StandsIn c (role_configs out.kept.role) → StandsIn c (role_configs node.role) ⊎ Heard input c
 role_had tests version node input out (Rests i answer notices n) c s = inl s
 role_had tests version node input out (Certifies payload n case e) c s = inl s
@@ -164,7 +164,7 @@ hears-had from me config c view old new sends (ProbesLower shard want epoch aske
 hears-had from me config c view old new sends (IsDone k h e) s = absurd s
 
 -- the configuration that is probed after an event
-pub prober_had : (tests : Tests) (version : ℕ) (node : NodeRecord) (input : Input) (out : Out NodeRecord) → Effect tests version node input out
+prober_had : (tests : Tests) (version : ℕ) (node : NodeRecord) (input : Input) (out : Out NodeRecord) → Effect tests version node input out
     → (c : Membership) → StandsIn c (probed_configs out.kept.prober) → StandsIn c (probed_configs node.prober) ⊎ Heard input c
 prober_had tests version node input out (Rests i answer notices n) c s = inl s
 prober_had tests version node input out (Certifies payload n case e) c s = inl s
@@ -225,7 +225,7 @@ gathers-had from number rows g config c pieces more e s =
     ]
 
 -- the configuration that is gathered for after an event
-pub gathering_had : (tests : Tests) (version : ℕ) (node : NodeRecord) (input : Input) (out : Out NodeRecord) → Effect tests version node input out
+gathering_had : (tests : Tests) (version : ℕ) (node : NodeRecord) (input : Input) (out : Out NodeRecord) → Effect tests version node input out
     → (c : Membership) → StandsIn c (gathered_configs out.kept.gathering) → StandsIn c (gathered_configs node.gathering) ⊎ Heard input c
 gathering_had tests version node input out (Rests i answer notices n) c s = inl s
 gathering_had tests version node input out (Certifies payload n case e) c s = inl s

@@ -9,7 +9,7 @@ use Rattle.protocol.specs.Invariant.Time.{StandsIn}
 use Rattle.protocol.specs.OneCopy.{Copied, overwritten, copy_after}
 
 -- an object of the copy after one more payload
-abbrev pub written_by : List ℕ → Copied → Accesses → Copied
+abbrev written_by : List ℕ → Copied → Accesses → Copied
 written_by name old p = overwritten old p.version (find (λ w. same_name w.name name) p.writes)
 
 -- what does not write an object leaves it
@@ -21,7 +21,7 @@ unwritten name (w ∷ ws) h = go (same_name w.name name) h (unwritten name ws)
     go true k ih = absurd (cc k)
     go false k ih = ih k
 
-pub untouched : (name : List ℕ) (old : Copied) (ps : List Accesses) → ((p : Accesses) → StandsIn p ps → writes_name p.writes name ≡ false) → fold (written_by name) old ps ≡ old
+untouched : (name : List ℕ) (old : Copied) (ps : List Accesses) → ((p : Accesses) → StandsIn p ps → writes_name p.writes name ≡ false) → fold (written_by name) old ps ≡ old
 untouched name old [] h = refl
 untouched name old (p ∷ ps) h =
     ap (λ o. fold (written_by name) (overwritten old p.version o) ps) (unwritten name p.writes (h p (inl refl)))

@@ -54,7 +54,7 @@ tells_value-of name version value (ReadValue other v told) h = go (same_name oth
         subst (λ x. pointwise nat_eq told x ≡ true) (same ∙ h r.value r.is) (same_name-self told)
 
 -- a read, where its object was read before at its version
-pub read-fits : (tests : Tests) (h : List Note) (past : List TxId) (t : TxId) (p : Accesses) (r : ReadPart) → Place tests h past t p → StandsIn r p.reads
+read-fits : (tests : Tests) (h : List Note) (past : List TxId) (t : TxId) (p : Accesses) (r : ReadPart) → Place tests h past t p → StandsIn r p.reads
     → list_any (tells_version r.name r.version) (before_begin h t) ≡ true → read_fits (before_begin h t) (payloads_of h past) r ≡ true
 read-fits tests h past t p r l s a =
     let one : Passing (tells_version r.name r.version) (before_begin h t) = any-Passing (tells_version r.name r.version) (before_begin h t) a in
@@ -92,7 +92,7 @@ range-seen p q name i s h n =
     none (Some r) e = absurd (cc e)
 
 -- a range
-pub range-fits : (tests : Tests) (h : List Note) (past : List TxId) (t : TxId) (p : Accesses) (q : RangePart) → Place tests h past t p → StandsIn q p.ranges → range_fits (payloads_of h past) p.reads q ≡ true
+range-fits : (tests : Tests) (h : List Note) (past : List TxId) (t : TxId) (p : Accesses) (q : RangePart) → Place tests h past t p → StandsIn q p.ranges → range_fits (payloads_of h past) p.reads q ≡ true
 range-fits tests h past t p q l s =
     all-from (λ (w : WritePart). not (in_range_part w.name q) || reads_name p.reads w.name || nat_le (copy_after (payloads_of h past) w.name).version q.version) (flat_map (λ (x : Accesses). x.writes) (payloads_of h past))
     (λ w there. go w.name (in_range_part w.name q) (reads_name p.reads w.name) refl refl)

@@ -20,11 +20,11 @@ use Rattle.protocol_laws.proofs.LegalOrder.{IsPayloadOf, payload-of}
 use Rattle.protocol_laws.proofs.KeepsTime.{decided-begun}
 
 -- what was decided in a front of a history began in that front
-pub record BeganIn (earlier : List Note) (txn : TxId) : Type 0 where
-  pub payload : Accesses
-  pub begun : payload_in earlier txn ≡ Some payload
+record BeganIn (earlier : List Note) (txn : TxId) : Type 0 where
+  payload : Accesses
+  begun : payload_in earlier txn ≡ Some payload
 
-pub committed-began : (tests : Tests) (n : ℕ) (h earlier later : List Note) (txn : TxId) → HistoryHolds tests n h → h ≡ earlier ++ later → StandsIn (Decide txn Commit) earlier → BeganIn earlier txn
+committed-began : (tests : Tests) (n : ℕ) (h earlier later : List Note) (txn : TxId) → HistoryHolds tests n h → h ≡ earlier ++ later → StandsIn (Decide txn Commit) earlier → BeganIn earlier txn
 committed-began tests n h earlier later txn holds e s = began (payload_in earlier txn) refl (decided-begun h earlier later txn (record { each = λ before u decision after q. ap is_some (holds.each before after u decision q).begun }) e s)
   where
     began : (o : Option Accesses) → payload_in earlier txn ≡ o → is_some o ≡ true → BeganIn earlier txn

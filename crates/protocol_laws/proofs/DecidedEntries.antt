@@ -47,13 +47,13 @@ decided-entry tests setup t txn decision whole p i past begun d s =
         part (inr q) = inr (q.0, subst (λ m. StandsIn (Take m) t.now.history) a.2.of_txn q.1)
 
 -- the part of a shard
-pub record PartIn (parts : List Part) (shard : ℕ) : Type 0 where
-  pub part : Part
-  pub there : StandsIn part parts
-  pub of_shard : part.shard ≡ shard
+record PartIn (parts : List Part) (shard : ℕ) : Type 0 where
+  part : Part
+  there : StandsIn part parts
+  of_shard : part.shard ≡ shard
 
 -- a decision has a part for each shard of the payload
-pub part-in : (n : ℕ) (t : Moment) (txn : TxId) (decision : Decision) (whole : Accesses) (shard : ℕ) → payload_in t.now.history txn ≡ Some whole → (d : IsDecidedBy n t txn decision) → StandsIn shard (shards_of n whole) → PartIn d.parts shard
+part-in : (n : ℕ) (t : Moment) (txn : TxId) (decision : Decision) (whole : Accesses) (shard : ℕ) → payload_in t.now.history txn ≡ Some whole → (d : IsDecidedBy n t txn decision) → StandsIn shard (shards_of n whole) → PartIn d.parts shard
 part-in n t txn decision whole shard begun d s =
     let same : d.payload ≡ whole = cc (begun, d.begun.first) in
     let among : StandsIn shard (map (λ p. p.shard) d.parts) = subst (λ ss. StandsIn shard ss) (sym (d.shards ∙ ap (λ m. shards_of n m) same)) s in

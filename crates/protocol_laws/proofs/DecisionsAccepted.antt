@@ -28,7 +28,7 @@ use Rattle.protocol_laws.proofs.EntriesCases.{with_part-holds, voted-holds, ackn
 use Rattle.protocol_laws.proofs.TransactionsActing.{IsActing}
 
 -- whoever acknowledged a listed entry held that entry; where all followers did, it is accepted
-pub all_held : (tests : Tests) (setup : Deployment) (t : Moment) (txn : TxId) (v : Membership) (entry : Preparation) (acks : List ℕ) → InvariantHolds tests setup t → IsStored t v → Listed t v entry
+all_held : (tests : Tests) (setup : Deployment) (t : Moment) (txn : TxId) (v : Membership) (entry : Preparation) (acks : List ℕ) → InvariantHolds tests setup t → IsStored t v → Listed t v entry
     → ((name : ℕ) → StandsIn name acks → HeldAt t v.epoch name entry.slot txn) → all_acknowledge (Some v) acks ≡ true → Accepted t v entry
 all_held tests setup t txn v entry acks i stored listed acknowledges all = record { stored = stored; held = λ name member. held name (name == v.leader) member refl }
   where

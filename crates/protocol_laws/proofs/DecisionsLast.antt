@@ -10,7 +10,7 @@ use Rattle.protocol_laws.specs.Turn.{Onward}
 use Rattle.protocol_laws.proofs.Lasting.{accepted-on}
 use Rattle.protocol_laws.proofs.TransactionsLast.{Goes, is_begun-on, noted-on}
 
-pub is_accepted-on : (t u : Moment) (txn : TxId) (shard : ℕ) (entry : Preparation) → Onward t u → IsAcceptedIn t txn shard entry → IsAcceptedIn u txn shard entry
+is_accepted-on : (t u : Moment) (txn : TxId) (shard : ℕ) (entry : Preparation) → Onward t u → IsAcceptedIn t txn shard entry → IsAcceptedIn u txn shard entry
 is_accepted-on t u txn shard entry o i = record { config = i.config; of_shard = i.of_shard; accepted = accepted-on t u i.config entry o i.accepted; of_txn = i.of_txn }
 
 pub is_decided-on : (n : ℕ) (t u : Moment) (txn : TxId) (decision : Decision) → Goes t u → IsDecidedBy n t txn decision → IsDecidedBy n u txn decision

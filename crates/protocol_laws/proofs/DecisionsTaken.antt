@@ -69,7 +69,7 @@ ready_part tests setup t u node input out txn case p a r complete s =
     complete_part tests setup t node.coordinator.views txn p a.before (λ v e. (view_is setup t node p.shard v a.before.configurations a.is e).stored) (r.holds.parts p s)
     (all-StandsIn (λ (q : Part). is_complete_by q.entry q.acks (view_of node.coordinator.views q.shard)) case.parts p complete s)
 
-pub ready_decided : (tests : Tests) (setup : Deployment) (t u : Moment) (node : NodeRecord) (input : Input) (out : Out NodeRecord) (txn : TxId) (case : Case) → IsActing tests setup t u node input out → IsReady setup t u node txn case
+ready_decided : (tests : Tests) (setup : Deployment) (t u : Moment) (node : NodeRecord) (input : Input) (out : Out NodeRecord) (txn : TxId) (case : Case) → IsActing tests setup t u node input out → IsReady setup t u node txn case
     → is_complete node.coordinator.views case ≡ true → IsDecidedBy setup.shards u txn (decision_of case.parts)
 ready_decided tests setup t u node input out txn case a r complete = record {
   payload = r.fits.payload;

@@ -34,14 +34,14 @@ use Rattle.protocol_laws.proofs.TransferSending.Sending.{Says, Answers, AsksVote
 use Rattle.protocol_laws.proofs.TransferSent.{sent_how, SentNow}
 use Rattle.protocol_laws.proofs.TransactionsPlaces.{IsView, view_is}
 
-pub listed_at-on : (t u : Moment) (shard epoch : ℕ) (x : Preparation) → Onward t u → ListedAt t shard epoch x → ListedAt u shard epoch x
+listed_at-on : (t u : Moment) (shard epoch : ℕ) (x : Preparation) → Onward t u → ListedAt t shard epoch x → ListedAt u shard epoch x
 listed_at-on t u shard epoch x onward l = record { config = l.config; stored = onward.stored l.config l.stored; of_shard = l.of_shard; of_epoch = l.of_epoch; listed = listed-on t u l.config x onward l.listed }
 
 pub held_at-on : (t u : Moment) (epoch name slot : ℕ) (txn : TxId) → Onward t u → HeldAt t epoch name slot txn → HeldAt u epoch name slot txn
 held_at-on t u epoch name slot txn onward k = record { entry = k.entry; held = held-on t u epoch name k.entry onward k.held; at_slot = k.at_slot; of_txn = k.of_txn }
 
 -- what holds of a voted part, at its view
-pub voted_part : (t : Moment) (txn : TxId) (views : List Membership) (part : Part) (view : Membership) (entry : Preparation) → PartHolds t txn (view_of views part.shard) part.entry part.acks → view_of views part.shard ≡ Some view → part.entry ≡ Some entry
+voted_part : (t : Moment) (txn : TxId) (views : List Membership) (part : Part) (view : Membership) (entry : Preparation) → PartHolds t txn (view_of views part.shard) part.entry part.acks → view_of views part.shard ≡ Some view → part.entry ≡ Some entry
     → PartHolds t txn (Some view) (Some entry) part.acks
 voted_part t txn views part view entry p v e = subst₂ (λ (a : Option Membership) (b : Option Preparation). PartHolds t txn a b part.acks) v e p
 
@@ -58,12 +58,12 @@ answers_by node input new dest shard epoch x (Answers entry leads still there) =
 
 pub record Again (node : NodeRecord) (view : Membership) (x : Preparation) : Type 0 where
   pub txn : TxId
-  case : Case
-  part : Part
-  opened : StandsIn (txn, case) node.coordinator.cases
-  has : StandsIn part case.parts
-  entry : part.entry ≡ Some x
-  sees : view_of node.coordinator.views part.shard ≡ Some view
+  pub case : Case
+  pub part : Part
+  pub opened : StandsIn (txn, case) node.coordinator.cases
+  pub has : StandsIn part case.parts
+  pub entry : part.entry ≡ Some x
+  pub sees : view_of node.coordinator.views part.shard ≡ Some view
 
 record AsksBy (node : NodeRecord) (input : Input) (dest epoch : ℕ) (x : Preparation) : Type 0 where
   view : Membership

@@ -60,7 +60,7 @@ payload-begun (n ∷ ns) txn payload e = go n e (payload-begun ns txn payload)
     go (Decide other decision) e ih = let r : (other : TxId) × StandsIn (Begin other payload) ns = ih e in (r.0, inr r.1)
 
 -- a decision stands at the moment at which it is noted
-pub stands_now : (tests : Tests) (setup : Deployment) (t : Moment) (earlier : List Note) (txn : TxId) (decision : Decision) → IsDeployment setup
+stands_now : (tests : Tests) (setup : Deployment) (t : Moment) (earlier : List Note) (txn : TxId) (decision : Decision) → IsDeployment setup
     → DecidesNow tests setup t earlier txn decision → DecisionStands tests setup.shards earlier txn decision
 stands_now tests setup t earlier txn decision deployment now =
     let d : IsDecidedBy setup.shards t txn decision = now.holds.decisions.decided txn decision (now-noted tests setup t earlier txn decision now) in

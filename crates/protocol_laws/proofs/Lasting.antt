@@ -21,12 +21,12 @@ one_node setup t a b c p q e = numbered-one (λ n. n.name) t.now.nodes 1 (length
 pub sent-on : (t u : Moment) (from to : ℕ) (m : Message) → Onward t u → WasSent t from to m → WasSent u from to m
 sent-on t u from to m o s = record { sent = o.messages (record { from = from; to = to; message = m }) s.sent }
 
-pub was_in-on : (t u : Moment) (epoch name : ℕ) (node : NodeRecord) → Onward t u → WasIn t epoch name node → WasIn u epoch name node
+was_in-on : (t u : Moment) (epoch name : ℕ) (node : NodeRecord) → Onward t u → WasIn t epoch name node → WasIn u epoch name node
 was_in-on t u epoch name node o w =
     record { moment = w.moment; past = inr (subst (λ ws. StandsIn w.moment ws) (sym o.past) w.past); there = w.there; named = w.named; in_epoch = w.in_epoch }
 
 -- a record of the past is one of the earlier past, or a node of this moment
-pub was_in-back : (t u : Moment) (epoch name : ℕ) (node : NodeRecord) → Onward t u → WasIn u epoch name node
+was_in-back : (t u : Moment) (epoch name : ℕ) (node : NodeRecord) → Onward t u → WasIn u epoch name node
     → WasIn t epoch name node ⊎ (IsNode u node × (node.name ≡ name) × (node.state ≡ epoch))
 was_in-back t u epoch name node o w = go w.past
   where
@@ -146,7 +146,7 @@ no_more-held setup t u epoch node x c o n h k = elim (held-back t u epoch node.n
 worlds-on : (t u : Moment) (later rest : List World) → Onward t u → worlds t ≡ later ++ rest → worlds u ≡ (u.now ∷ later) ++ rest
 worlds-on t u later rest o e = ap (λ ws. u.now ∷ ws) (o.past ∙ e)
 
-pub became-on : (t u : Moment) (c : Membership) (rows : List Row) → Onward t u → BecameLeader t c rows → BecameLeader u c rows
+became-on : (t u : Moment) (c : Membership) (rows : List Row) → Onward t u → BecameLeader t c rows → BecameLeader u c rows
 became-on t u c rows o b = record {
   later = u.now ∷ b.later;
   after = b.after;

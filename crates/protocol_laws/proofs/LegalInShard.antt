@@ -34,17 +34,17 @@ use Rattle.tcs_terms.proofs.BoolLaws.{not_true}
 
 -- an entry that stands in the rows to which another one was appended, whose vote was to commit: its mark then, with the
 -- decision behind it, and what the vote said of it
-pub record StoodBelow (tests : Tests) (earlier : List Note) (low : Preparation) (high : Accesses) : Type 0 where
-  pub mark : Mark
-  pub stands : MarkStands earlier low.txn mark
-  pub passes : refuses_by tests mark low.vote low.payload high ≡ false
+record StoodBelow (tests : Tests) (earlier : List Note) (low : Preparation) (high : Accesses) : Type 0 where
+  mark : Mark
+  stands : MarkStands earlier low.txn mark
+  passes : refuses_by tests mark low.vote low.payload high ≡ false
 
 mark_stands-front : (history earlier : List Note) (txn : TxId) (mark : Mark) → IsFront history earlier → MarkStands history txn mark → MarkStands earlier txn mark
 mark_stands-front history earlier txn Undecided f s = tt
 mark_stands-front history earlier txn Committed f s = front-StandsIn history earlier (Decide txn Commit) f s
 mark_stands-front history earlier txn Aborted f s = (s.0, s.1, front-StandsIn history earlier (Decide txn (Abort s.0 s.1)) f s.2)
 
-pub stood_below : (tests : Tests) (setup : Deployment) (t : Moment) (earlier : List Note) (txn : TxId) (decision : Decision) (c : Membership) (low high : Preparation) (new : Accesses)
+stood_below : (tests : Tests) (setup : Deployment) (t : Moment) (earlier : List Note) (txn : TxId) (decision : Decision) (c : Membership) (low high : Preparation) (new : Accesses)
     → DecidesNow tests setup t earlier txn decision → Listed t c low → Listed t c high → low.slot < high.slot → high.payload ≡ Some new → high.vote ≡ votes.Commit → StoodBelow tests earlier low new
 stood_below tests setup t earlier txn decision c low high new d l h below payload vote =
     let a : Appended tests t c high = d.holds.entries.appended c high h in

@@ -16,7 +16,7 @@ use Rattle.protocol_laws.proofs.Stored.{one_config}
 use Rattle.protocol_laws.proofs.TransferConfigs.{leads_member}
 
 -- who held something in an epoch reached it
-pub held-reached : (t : Moment) (epoch name : ℕ) (x : Preparation) → Held t epoch name x → Reached t epoch name
+held-reached : (t : Moment) (epoch name : ℕ) (x : Preparation) → Held t epoch name x → Reached t epoch name
 held-reached t epoch name x h = record { node = h.node; was = h.was; some = h.some }
 
 -- an accepted entry is listed
@@ -26,7 +26,7 @@ accepted-listed tests setup t c x i a =
     record { initial = i.transfer.led c a.stored (held-reached t c.epoch c.leader x held); held = held }
 
 -- an accepted entry is listed in every later configuration that has a list
-pub accepted-later : (tests : Tests) (setup : Deployment) (t : Moment) (c d : Membership) (x : Preparation) → InvariantHolds tests setup t → Accepted t c x → HasInitial t d → c.shard ≡ d.shard → c.epoch < d.epoch → Listed t d x
+accepted-later : (tests : Tests) (setup : Deployment) (t : Moment) (c d : Membership) (x : Preparation) → InvariantHolds tests setup t → Accepted t c x → HasInitial t d → c.shard ≡ d.shard → c.epoch < d.epoch → Listed t d x
 accepted-later tests setup t c d x i a h s l =
     let on : IsHandedOn t c h.0 = i.transfer.handed_on d c h.0 h.1 a.stored s l in
     let initial : StandsIn x h.0 = on.inside x (a.held on.node.name on.member) in

@@ -27,7 +27,7 @@ goes_on-one : (c : Coordinator) (txn : TxId) (case : Case) (sends : List Outgoin
 goes_on-one c txn case sends o (Waiting h) = inl refl
 goes_on-one c txn case sends o (Decides h) = inr (notes.Decide txn (decision_of case.parts), refl)
 
-pub effect-one : (tests : Tests) (version : ℕ) (node : NodeRecord) (input : Input) (out : Out NodeRecord) → Effect tests version node input out → AtMostOne out.notes
+effect-one : (tests : Tests) (version : ℕ) (node : NodeRecord) (input : Input) (out : Out NodeRecord) → Effect tests version node input out → AtMostOne out.notes
 effect-one tests version node i o (Rests input answer notices h) = inl refl
 effect-one tests version node i o (Certifies payload h case e) = inr (notes.Begin (next_txn node) payload, refl)
 effect-one tests version node i o (TakesOver txn row a b c d case e) = inr (notes.Take txn, refl)

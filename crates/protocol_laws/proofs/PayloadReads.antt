@@ -31,24 +31,24 @@ any-Passing {X = X} p (x ∷ xs) h = go (p x) refl h (λ k. any-Passing p xs k)
     go false e k ih = later (ih k)
 
 -- a read of an object, found by its name, at a version below the payload's
-pub record IsRead (p : Accesses) (name : List ℕ) : Type 0 where
-  pub read : ReadPart
-  pub found : find (λ r. same_name r.name name) p.reads ≡ Some read
-  pub below : read.version < p.version
+record IsRead (p : Accesses) (name : List ℕ) : Type 0 where
+  read : ReadPart
+  found : find (λ r. same_name r.name name) p.reads ≡ Some read
+  below : read.version < p.version
 
 -- a read finds itself
-pub read-found : (p : Accesses) (r : ReadPart) → IsPayload p → StandsIn r p.reads → find (λ s. same_name s.name r.name) p.reads ≡ Some r
+read-found : (p : Accesses) (r : ReadPart) → IsPayload p → StandsIn r p.reads → find (λ s. same_name s.name r.name) p.reads ≡ Some r
 read-found p r i s = find-once (λ (x : ReadPart). x.name) p.reads r i.reads_ascend s
 
 -- so does a write
 pub write-found : (p : Accesses) (w : WritePart) → IsPayload p → StandsIn w p.writes → find (λ v. same_name v.name w.name) p.writes ≡ Some w
 write-found p w i s = find-once (λ (x : WritePart). x.name) p.writes w i.writes_ascend s
 
-pub read-below : (p : Accesses) (r : ReadPart) → IsPayload p → StandsIn r p.reads → r.version < p.version
+read-below : (p : Accesses) (r : ReadPart) → IsPayload p → StandsIn r p.reads → r.version < p.version
 read-below p r i s = ltb-true r.version p.version (all-StandsIn (λ (x : ReadPart). nat_lt x.version p.version) p.reads r i.reads_below s)
 
 -- each written object is read
-pub write-IsRead : (p : Accesses) (name : List ℕ) → IsPayload p → writes_name p.writes name ≡ true → IsRead p name
+write-IsRead : (p : Accesses) (name : List ℕ) → IsPayload p → writes_name p.writes name ≡ true → IsRead p name
 write-IsRead p name i h =
     let w : Passing (λ (v : WritePart). same_name v.name name) p.writes = any-Passing (λ (v : WritePart). same_name v.name name) p.writes h in
     let same : w.one.name ≡ name = same_name-eq w.one.name name w.passes in
@@ -61,7 +61,7 @@ write-IsRead p name i h =
     }
 
 -- what is read by name is seen at that version
-pub read-seen : (p : Accesses) (name : List ℕ) (r : ReadPart) → find (λ s. same_name s.name name) p.reads ≡ Some r → seen p name ≡ Some r.version
+read-seen : (p : Accesses) (name : List ℕ) (r : ReadPart) → find (λ s. same_name s.name name) p.reads ≡ Some r → seen p name ≡ Some r.version
 read-seen p name r h = ap (λ o. version_seen o (range_version (find (in_range_part name) p.ranges))) h
 
 -- of two payloads that write one object, the newer of which passes against the older, the newer has the greater version

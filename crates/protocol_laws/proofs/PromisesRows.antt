@@ -17,7 +17,7 @@ use Rattle.protocol_laws.proofs.Standing.{IsMapped, map-StandsIn, find-none, is-
 use Rattle.protocol_laws.proofs.SameTxn.{same_txn-self}
 
 -- a transaction without a row is that of no entry
-pub no_row : (rows : List Row) (txn : TxId) → row_of rows txn ≡ None → (y : Preparation) → StandsIn y (entries_of rows) → y.txn ≡ txn → ⊥
+no_row : (rows : List Row) (txn : TxId) → row_of rows txn ≡ None → (y : Preparation) → StandsIn y (entries_of rows) → y.txn ≡ txn → ⊥
 no_row rows txn h y s e =
     let r : IsMapped (λ q. q.entry) rows y = map-StandsIn (λ q. q.entry) rows y s in
     let f : same_txn r.from.entry.txn txn ≡ false = find-none (λ q. same_txn q.entry.txn txn) rows r.from h r.there in
@@ -25,7 +25,7 @@ no_row rows txn h y s e =
     cc (f, t)
 
 -- the last slot is the greatest
-pub last-greatest : (o : Option Row) (rows : List Row) → InOrder (entries_of rows) → (y : Preparation) → StandsIn y (entries_of rows) → y.slot ≤ slot_or_zero (last_or o rows)
+last-greatest : (o : Option Row) (rows : List Row) → InOrder (entries_of rows) → (y : Preparation) → StandsIn y (entries_of rows) → y.slot ≤ slot_or_zero (last_or o rows)
 last-greatest o [] k y s = absurd s
 last-greatest o (r ∷ []) k y (inl e) = let q : y.slot ≡ r.entry.slot = ap (λ m. m.slot) e in omega (arith, q)
 last-greatest o (r ∷ []) k y (inr s) = absurd s

@@ -30,7 +30,7 @@ became-rows t p c rows b =
     subst AreRows b.rows_then (past-rows t p b.after b.node there b.new_node)
 
 -- rows whose entries are initial ones
-pub initial-rows : (t : Moment) → PromisesHold t → (c : Membership) (rows : List Row) → Initial t c (entries_of rows) → AreRows rows
+initial-rows : (t : Moment) → PromisesHold t → (c : Membership) (rows : List Row) → Initial t c (entries_of rows) → AreRows rows
 initial-rows t p c rows i = go i.begun
   where
     go : ((c.epoch ≡ 1) × (entries_of rows ≡ [])) ⊎ ((first : List Row) × BecameLeader t c first × (entries_of rows ≡ entries_of first)) → AreRows rows
@@ -48,7 +48,7 @@ sent_piece-rows t p f from to number pieces c rows s =
     subst AreRows (sym ((k.1.pieces from to number pieces rows s).3)) (piece-rows k.0 number (initial-rows t p c k.0 k.1.initial))
 
 -- the slot of an entry that was held
-pub held-fits : (t : Moment) → PromisesHold t → (epoch name : ℕ) (x : Preparation) → Held t epoch name x → slot_fits x ≡ true
+held-fits : (t : Moment) → PromisesHold t → (epoch name : ℕ) (x : Preparation) → Held t epoch name x → slot_fits x ≡ true
 held-fits t p epoch name x h = in_order-fits (entries_of h.node.rows) x (rows-in_order h.node.rows (past-rows t p h.was.moment h.node h.was.past h.was.there)) h.holds
 
 -- the slot of an entry of an ACCEPT

@@ -29,19 +29,19 @@ use Rattle.protocol_laws.proofs.Standing.{StandsIn-right}
 use Rattle.protocol_laws.proofs.WithPast.{any-with_past}
 
 -- the event between two worlds of a run that began with another one
-pub record EventBetween (tests : Tests) (version : ℕ) (first : World) (events : List Event) (before after : World) : Type 0 where
-  pub past : List Event
-  pub event : Event
-  pub rest : List Event
-  pub is : events ≡ past ++ (event ∷ rest)
-  pub before_is : before ≡ world_after tests version first past
-  pub after_is : after ≡ (world_step tests version before event).after
+record EventBetween (tests : Tests) (version : ℕ) (first : World) (events : List Event) (before after : World) : Type 0 where
+  past : List Event
+  event : Event
+  rest : List Event
+  is : events ≡ past ++ (event ∷ rest)
+  before_is : before ≡ world_after tests version first past
+  after_is : after ≡ (world_step tests version before event).after
 
 -- two worlds follow each other in a moment's past
-pub record FollowIn (ws : List World) (before after : World) : Type 0 where
-  pub later : List World
-  pub earlier : List World
-  pub is : ws ≡ later ++ (after ∷ before ∷ earlier)
+record FollowIn (ws : List World) (before after : World) : Type 0 where
+  later : List World
+  earlier : List World
+  is : ws ≡ later ++ (after ∷ before ∷ earlier)
 
 one_back : (tests : Tests) (version : ℕ) (t : Moment) (event : Event) (rest : List Event) (before after : World) → FollowIn ((world_step tests version t.now event).after ∷ worlds t) before after → EventBetween tests version t.now (event ∷ rest) before after ⊎ FollowIn (worlds t) before after
 unfolding world_after
@@ -54,7 +54,7 @@ one_back tests version t event rest before after f = go f.later f.is
         inl (record { past = []; event = event; rest = rest; is = refl; before_is = same; after_is = sym new ∙ ap (λ w. (world_step tests version w event).after) (sym same) })
     go (x ∷ xs) e = inr (record { later = xs; earlier = f.earlier; is = cc e })
 
-pub event_between : (tests : Tests) (version : ℕ) (t : Moment) (events : List Event) (before after : World) → FollowIn (worlds (fold (λ m e. goes_to m (world_step tests version m.now e).after) t events)) before after
+event_between : (tests : Tests) (version : ℕ) (t : Moment) (events : List Event) (before after : World) → FollowIn (worlds (fold (λ m e. goes_to m (world_step tests version m.now e).after) t events)) before after
     → EventBetween tests version t.now events before after ⊎ FollowIn (worlds t) before after
 unfolding world_after
 event_between tests version t [] before after f = inr f
@@ -71,7 +71,7 @@ not_first w before after f = go f.later f.is
     go (x ∷ []) e = cc e
     go (x ∷ y ∷ xs) e = cc e
 
-pub run_between : (tests : Tests) (setup : Deployment) (events : List Event) (before after : World) → FollowIn (worlds (time_after tests setup events)) before after → EventBetween tests setup.version (first_world setup) events before after
+run_between : (tests : Tests) (setup : Deployment) (events : List Event) (before after : World) → FollowIn (worlds (time_after tests setup events)) before after → EventBetween tests setup.version (first_world setup) events before after
 unfolding time_after
 run_between tests setup events before after f = elim (event_between tests setup.version (record { now = first_world setup; before = [] }) events before after f) [
   | inl b ↦ b

@@ -24,7 +24,7 @@ unfolding with_notice
 holds_noticed nodes configs from message kind mark = HoldsBack message (Held mark) (notice_of (Held mark) from kind 0 ++ []) (are_notices (Held mark) from kind 0)
 
 -- a shard's last configuration is stored
-pub last_config-StandsIn : (configs : List Membership) (shard : ℕ) (c : Membership) → last_config configs shard ≡ Some c → StandsIn c configs
+last_config-StandsIn : (configs : List Membership) (shard : ℕ) (c : Membership) → last_config configs shard ≡ Some c → StandsIn c configs
 last_config-StandsIn configs shard c h = elim (last_or-StandsIn None (filter (λ d. d.shard == shard) configs) c h) [
   | inl e ↦ absurd (cc e)
   | inr s ↦ (filter-StandsIn (λ d. d.shard == shard) configs c s).0

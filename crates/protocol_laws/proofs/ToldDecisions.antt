@@ -38,7 +38,7 @@ use Rattle.protocol_laws.proofs.ServiceSays.ServiceSays.{TellsStored, TellsChang
 use Rattle.protocol_laws.proofs.Sends.{Each, each-none, each-one, each-both, each-case, each-accept, each-resend, each-ask_leader, each-sees, each-decision, each-goes_on, each-stage, each-hears, each-state, each-notice}
 
 -- a message, where it is a DECISION, tells one that is noted
-abbrev pub TellsNoted : List Note → Message → Type 0
+abbrev TellsNoted : List Note → Message → Type 0
 TellsNoted ns (Prepare epoch txn shards part) = Unit {0}
 TellsNoted ns (PrepareAck shard epoch entry) = Unit {0}
 TellsNoted ns (Accept epoch entry) = Unit {0}

@@ -40,7 +40,7 @@ abbrev pub CasesFit : ℕ → Moment → Coordinator → Type 0
 CasesFit n t c = (txn : TxId) (case : Case) → StandsIn (txn, case) c.cases → CaseFits n t txn case
 
 -- what a part voted fits
-abbrev pub PartFits : ℕ → Moment → Part → Type 0
+abbrev PartFits : ℕ → Moment → Part → Type 0
 PartFits n t p = (entry : Preparation) → p.entry ≡ Some entry → EntryFits n t p.shard entry
 
 case_with_part : (n : ℕ) (t : Moment) (txn : TxId) (case : Case) (part : Part) → CaseFits n t txn case → PartFits n t part → CaseFits n t txn (with_part case part)
@@ -56,18 +56,18 @@ case_with_part n t txn case part f k = record {
 }
 
 -- the first entry that a shard voted fits, where the later one does and what it had did
-pub first_fits : (n : ℕ) (t : Moment) (shard : ℕ) (kept : Option Preparation) (entry : Preparation) → ((x : Preparation) → kept ≡ Some x → EntryFits n t shard x) → EntryFits n t shard entry → EntryFits n t shard (first_entry kept entry)
+first_fits : (n : ℕ) (t : Moment) (shard : ℕ) (kept : Option Preparation) (entry : Preparation) → ((x : Preparation) → kept ≡ Some x → EntryFits n t shard x) → EntryFits n t shard entry → EntryFits n t shard (first_entry kept entry)
 first_fits n t shard None entry k f = f
 first_fits n t shard (Some x) entry k f = k x refl
 
 -- a shard that voted, and cases in which one did, and in which a follower acknowledged
-pub voted_entry : (n : ℕ) (t : Moment) (txn : TxId) (case : Case) (shard : ℕ) (part : Part) (entry : Preparation) → CaseFits n t txn case → part_of case.parts shard ≡ Some part → EntryFits n t shard entry
+voted_entry : (n : ℕ) (t : Moment) (txn : TxId) (case : Case) (shard : ℕ) (part : Part) (entry : Preparation) → CaseFits n t txn case → part_of case.parts shard ≡ Some part → EntryFits n t shard entry
     → EntryFits n t shard (first_entry part.entry entry)
 voted_entry n t txn case shard part entry f e g =
     let i : IsPartOf case.parts shard part = part_is case.parts shard part e in
     first_fits n t shard part.entry entry (λ y r. subst (λ s. EntryFits n t s y) i.of_shard (f.voted part y i.among r)) g
 
-pub voted_fits : (n : ℕ) (t : Moment) (txn : TxId) (case : Case) (shard : ℕ) (part : Part) (entry : Preparation) → CaseFits n t txn case → part_of case.parts shard ≡ Some part → EntryFits n t shard entry
+voted_fits : (n : ℕ) (t : Moment) (txn : TxId) (case : Case) (shard : ℕ) (part : Part) (entry : Preparation) → CaseFits n t txn case → part_of case.parts shard ≡ Some part → EntryFits n t shard entry
     → CaseFits n t txn (with_part case (voted part entry))
 voted_fits n t txn case shard part entry f e g =
     let i : IsPartOf case.parts shard part = part_is case.parts shard part e in
@@ -75,7 +75,7 @@ voted_fits n t txn case shard part entry f e g =
     let same : first_entry part.entry entry ≡ x = cc q in
     subst (λ y. EntryFits n t part.shard y) same (subst (λ s. EntryFits n t s (first_entry part.entry entry)) (sym i.of_shard) (voted_entry n t txn case shard part entry f e g)))
 
-pub acknowledged_fits : (n : ℕ) (t : Moment) (txn : TxId) (case : Case) (shard : ℕ) (part : Part) (from : ℕ) → CaseFits n t txn case → part_of case.parts shard ≡ Some part → CaseFits n t txn (with_part case (acknowledged part from))
+acknowledged_fits : (n : ℕ) (t : Moment) (txn : TxId) (case : Case) (shard : ℕ) (part : Part) (from : ℕ) → CaseFits n t txn case → part_of case.parts shard ≡ Some part → CaseFits n t txn (with_part case (acknowledged part from))
 acknowledged_fits n t txn case shard part from f e =
     let i : IsPartOf case.parts shard part = part_is case.parts shard part e in
     case_with_part n t txn case (acknowledged part from) f (λ x q. f.voted part x i.among q)
@@ -84,7 +84,7 @@ acknowledged_fits n t txn case shard part from f e =
 nothing_voted : (shards : List ℕ) (p : Part) (entry : Preparation) → StandsIn p (map asked shards) → p.entry ≡ Some entry → ⊥
 nothing_voted shards p entry s e = let i : IsMapped asked shards p = map-StandsIn asked shards p s in let q : p.entry ≡ None = ap (λ (x : Part). x.entry) i.is in cc (q, e)
 
-pub certified_fits : (tests : Tests) (setup : Deployment) (t u : Moment) (node : NodeRecord) (input : Input) (out : Out NodeRecord) (payload : Accesses) → IsActing tests setup t u node input out
+certified_fits : (tests : Tests) (setup : Deployment) (t u : Moment) (node : NodeRecord) (input : Input) (out : Out NodeRecord) (payload : Accesses) → IsActing tests setup t u node input out
     → out.notes ≡ notes.Begin (next_txn node) payload ∷ [] → CaseFits setup.shards u (next_txn node) (new_case (shards_of (length node.coordinator.views) payload) (Some payload))
 certified_fits tests setup t u node input out payload a e = record {
   payload = payload;
@@ -94,7 +94,7 @@ certified_fits tests setup t u node input out payload a e = record {
   voted = λ p entry s q. absurd (nothing_voted (shards_of (length node.coordinator.views) payload) p entry s q);
 }
 
-pub taken_fits : (tests : Tests) (setup : Deployment) (t u : Moment) (node : NodeRecord) (input : Input) (out : Out NodeRecord) (txn : TxId) (row : Row) → IsActing tests setup t u node input out
+taken_fits : (tests : Tests) (setup : Deployment) (t u : Moment) (node : NodeRecord) (input : Input) (out : Out NodeRecord) (txn : TxId) (row : Row) → IsActing tests setup t u node input out
     → row_of node.rows txn ≡ Some row → WasTaken u txn → CaseFits setup.shards u txn (new_case row.entry.shards None)
 taken_fits tests setup t u node input out txn row a e taken =
     let stands : StandsIn row node.rows × (same_txn row.entry.txn txn ≡ true) = find-StandsIn (λ (r : Row). same_txn r.entry.txn txn) node.rows row e in

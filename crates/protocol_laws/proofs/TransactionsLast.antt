@@ -68,16 +68,16 @@ pub is_part-on : (t u : Moment) (n shard : ℕ) (txn : TxId) (whole : Accesses) 
 is_part-on t u n shard txn whole part o (inl e) = inl e
 is_part-on t u n shard txn whole part o (inr p) = inr (p.0, noted-on t u _ o p.1)
 
-pub vote_names-on : (t u : Moment) (vote : Vote) → Goes t u → VoteNames t vote → VoteNames u vote
+vote_names-on : (t u : Moment) (vote : Vote) → Goes t u → VoteNames t vote → VoteNames u vote
 vote_names-on t u votes.Commit g v = tt
 vote_names-on t u (votes.Clash txn) g v = has_begun-on t u txn g v
 vote_names-on t u votes.Lost g v = tt
 
-pub cause_names-on : (t u : Moment) (cause : Cause) → Goes t u → CauseNames t cause → CauseNames u cause
+cause_names-on : (t u : Moment) (cause : Cause) → Goes t u → CauseNames t cause → CauseNames u cause
 cause_names-on t u (causes.Clash txn) g v = has_begun-on t u txn g v
 cause_names-on t u causes.Lost g v = tt
 
-pub decision_names-on : (t u : Moment) (decision : Decision) → Goes t u → DecisionNames t decision → DecisionNames u decision
+decision_names-on : (t u : Moment) (decision : Decision) → Goes t u → DecisionNames t decision → DecisionNames u decision
 decision_names-on t u decisions.Commit g v = tt
 decision_names-on t u (decisions.Abort shard cause) g v = cause_names-on t u cause g v
 
@@ -92,7 +92,7 @@ entry_fits-on n t u shard entry g f = record {
   vote = vote_names-on t u entry.vote g f.vote;
 }
 
-pub prepare_fits-on : (n : ℕ) (t u : Moment) (shard : ℕ) (txn : TxId) (shards : List ℕ) (part : Option Accesses) → Goes t u → PrepareFits n t shard txn shards part → PrepareFits n u shard txn shards part
+prepare_fits-on : (n : ℕ) (t u : Moment) (shard : ℕ) (txn : TxId) (shards : List ℕ) (part : Option Accesses) → Goes t u → PrepareFits n t shard txn shards part → PrepareFits n u shard txn shards part
 prepare_fits-on n t u shard txn shards part g f = record {
   payload = f.payload;
   begun = is_begun-on t u txn f.payload g f.begun;

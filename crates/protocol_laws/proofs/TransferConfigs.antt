@@ -15,7 +15,7 @@ use Rattle.protocol_laws.proofs.Came.{IsNext}
 use Rattle.protocol_laws.proofs.Stored.{stands_in_shard}
 
 -- no epoch is above the last one
-pub upto_last : (setup : Deployment) (t : Moment) → ConfigurationsHold setup t → (c last : Membership) → IsStored t c → last_config t.now.configs c.shard ≡ Some last → c.epoch ≤ last.epoch
+upto_last : (setup : Deployment) (t : Moment) → ConfigurationsHold setup t → (c last : Membership) → IsStored t c → last_config t.now.configs c.shard ≡ Some last → c.epoch ≤ last.epoch
 upto_last setup t h c last s e =
     let below : c.epoch < 1 + last_epoch t.now.configs c.shard = numbered-below (λ (d : Membership). d.epoch) (filter (λ (d : Membership). d.shard == c.shard) t.now.configs) 1 (last_epoch t.now.configs c.shard) c (h.epochs c.shard) (stands_in_shard t c.shard c s refl) in
     let is : last_epoch t.now.configs c.shard ≡ last.epoch = ap epoch_of e in

@@ -37,27 +37,27 @@ pub record BecomesLeader (node : NodeRecord) (input : Input) (new : NodeRecord) 
   pub is : new ≡ record node { role = Leader config; state = config.epoch }
 
 -- all pieces of some rows are there
-pub record TookWhole (node : NodeRecord) (input : Input) (config : Membership) (rows : List Row) : Type 0 where
-  pub from : ℕ
-  pub number : ℕ
-  pub pieces : ℕ
-  pub piece : List Row
-  pub delivers : input ≡ Deliver from (StatePiece config number pieces piece)
-  pub takes : takes_piece node.gathering config pieces (record { number = number; rows = piece }) ≡ true
-  pub whole : is_whole (with_one_more (gathering_for node.gathering config pieces) (record { number = number; rows = piece })) ≡ true
-  pub is : rows ≡ rows_of (with_one_more (gathering_for node.gathering config pieces) (record { number = number; rows = piece })).kept
+record TookWhole (node : NodeRecord) (input : Input) (config : Membership) (rows : List Row) : Type 0 where
+  from : ℕ
+  number : ℕ
+  pieces : ℕ
+  piece : List Row
+  delivers : input ≡ Deliver from (StatePiece config number pieces piece)
+  takes : takes_piece node.gathering config pieces (record { number = number; rows = piece }) ≡ true
+  whole : is_whole (with_one_more (gathering_for node.gathering config pieces) (record { number = number; rows = piece })) ≡ true
+  is : rows ≡ rows_of (with_one_more (gathering_for node.gathering config pieces) (record { number = number; rows = piece })).kept
 
 -- a node becomes follower of a configuration, with rows that came whole or in pieces
-pub record BecomesFollower (node : NodeRecord) (input : Input) (new : NodeRecord) : Type 0 where
-  pub config : Membership
-  pub may : MayFollow node config
-  pub rows : List Row
-  pub gathering : Option Gathering
-  pub is : new ≡ follows node config rows gathering
-  pub came : ((from : ℕ) × (input ≡ Deliver from (NewState config rows))) ⊎ TookWhole node input config rows
+record BecomesFollower (node : NodeRecord) (input : Input) (new : NodeRecord) : Type 0 where
+  config : Membership
+  may : MayFollow node config
+  rows : List Row
+  gathering : Option Gathering
+  is : new ≡ follows node config rows gathering
+  came : ((from : ℕ) × (input ≡ Deliver from (NewState config rows))) ⊎ TookWhole node input config rows
 
 -- a node stays in its state epoch, or becomes leader or follower
-pub state_by : (tests : Tests) (version : ℕ) (node : NodeRecord) (input : Input) (out : Out NodeRecord) → Effect tests version node input out
+state_by : (tests : Tests) (version : ℕ) (node : NodeRecord) (input : Input) (out : Out NodeRecord) → Effect tests version node input out
     → (out.kept.state ≡ node.state) ⊎ BecomesLeader node input out.kept ⊎ BecomesFollower node input out.kept
 state_by tests version node input out (Leads from config shard role promised leader) =
     inr (inl (record { from = from; config = config; delivers = refl; shard = shard; role = role; promised = promised; leader = leader; is = refl }))

@@ -103,15 +103,15 @@ whole-Initial t transfer name from to config number pieces rows g gathered sent 
         subst (λ rows. Initial t config (entries_of rows)) (sym is) sent_all.initial
 
 -- a node took a piece, and gathers this now
-pub record TookPiece (node : NodeRecord) (input : Input) (g : Gathering) : Type 0 where
-  pub from : ℕ
-  pub config : Membership
-  pub number : ℕ
-  pub pieces : ℕ
-  pub rows : List Row
-  pub delivers : input ≡ Deliver from (StatePiece config number pieces rows)
-  pub takes : takes_piece node.gathering config pieces (record { number = number; rows = rows }) ≡ true
-  pub is : g ≡ with_one_more (gathering_for node.gathering config pieces) (record { number = number; rows = rows })
+record TookPiece (node : NodeRecord) (input : Input) (g : Gathering) : Type 0 where
+  from : ℕ
+  config : Membership
+  number : ℕ
+  pieces : ℕ
+  rows : List Row
+  delivers : input ≡ Deliver from (StatePiece config number pieces rows)
+  takes : takes_piece node.gathering config pieces (record { number = number; rows = rows }) ≡ true
+  is : g ≡ with_one_more (gathering_for node.gathering config pieces) (record { number = number; rows = rows })
 
 gathering_by : (tests : Tests) (version : ℕ) (node : NodeRecord) (input : Input) (out : Out NodeRecord) → Effect tests version node input out → (g : Gathering) → out.kept.gathering ≡ Some g
     → (node.gathering ≡ Some g) ⊎ TookPiece node input g
@@ -124,17 +124,17 @@ gathering_by tests version node input out (Rests i answer notices n) g h = inl h
 gathering_by tests version node input out _ g h = inl h
 
 -- what a node gathers after an event: as before, or it took a piece
-pub record GathersNow (t : Moment) (new : NodeRecord) (g : Gathering) : Type 0 where
-  pub config : Membership
-  pub pieces : ℕ
-  pub gathered : IsGathered t new.name config pieces g
+record GathersNow (t : Moment) (new : NodeRecord) (g : Gathering) : Type 0 where
+  config : Membership
+  pieces : ℕ
+  gathered : IsGathered t new.name config pieces g
 
 -- what a node gathered before, that gathers the same now
-pub record GatheredBefore (t : Moment) (new : NodeRecord) (g : Gathering) : Type 0 where
-  pub old : NodeRecord
-  pub is : IsNode t old
-  pub named : old.name ≡ new.name
-  pub gathers : old.gathering ≡ Some g
+record GatheredBefore (t : Moment) (new : NodeRecord) (g : Gathering) : Type 0 where
+  old : NodeRecord
+  is : IsNode t old
+  named : old.name ≡ new.name
+  gathers : old.gathering ≡ Some g
 
 gathering_of : (tests : Tests) (setup : Deployment) (t : Moment) (event : Event) (h : Happening) → Turn tests setup t event h → (a : Acting tests setup t event h) (g : Gathering) → a.out.kept.gathering ≡ Some g
     → GatheredBefore t a.out.kept g ⊎ GathersNow t a.out.kept g
@@ -150,7 +150,7 @@ gathering_of tests setup t event h turn a g e = elim (gathering_by tests setup.v
   })
 ]
 
-pub gathering_back : (tests : Tests) (setup : Deployment) (t : Moment) (event : Event) (h : Happening) → Turn tests setup t event h → (new : NodeRecord) (g : Gathering) → IsNode (goes_to t h.after) new → new.gathering ≡ Some g
+gathering_back : (tests : Tests) (setup : Deployment) (t : Moment) (event : Event) (h : Happening) → Turn tests setup t event h → (new : NodeRecord) (g : Gathering) → IsNode (goes_to t h.after) new → new.gathering ≡ Some g
     → GatheredBefore t new g ⊎ GathersNow t new g
 gathering_back tests setup t event h turn new g n e = elim (node_back tests setup t event h turn new n) [
   | inl k ↦ inl (record { old = new; is = k; named = refl; gathers = e })

@@ -44,7 +44,7 @@ joined-entries (r ∷ rs) ys x (inl e) = inl (inl e)
 joined-entries (r ∷ rs) ys x (inr s) = elim (joined-entries rs ys x s) [ inl k ↦ inl (inr k) | inr k ↦ inr k ]
 
 -- what is in rows that accepted an entry was there, or is the entry
-pub accepted-StandsIn : (rows : List Row) (entry x : Preparation) → StandsIn x (entries_of (accepted rows entry)) → StandsIn x (entries_of rows) ⊎ (x ≡ entry)
+accepted-StandsIn : (rows : List Row) (entry x : Preparation) → StandsIn x (entries_of (accepted rows entry)) → StandsIn x (entries_of rows) ⊎ (x ≡ entry)
 accepted-StandsIn rows entry x s = go (has_at rows entry.slot entry.txn) s
   where
     put : StandsIn x (entries_of (filter (λ (r : Row). nat_lt r.entry.slot entry.slot) rows)) ⊎ StandsIn x (entry ∷ entries_of (filter (λ (r : Row). nat_lt entry.slot r.entry.slot) rows)) → StandsIn x (entries_of rows) ⊎ (x ≡ entry)
@@ -57,25 +57,25 @@ accepted-StandsIn rows entry x s = go (has_at rows entry.slot entry.txn) s
     go false k = put (joined-entries (filter (λ (r : Row). nat_lt r.entry.slot entry.slot) rows) (undecided entry ∷ filter (λ (r : Row). nat_lt entry.slot r.entry.slot) rows) x k)
 
 -- a node takes an entry that it is sent to accept
-pub record TakesEntry (node : NodeRecord) (input : Input) (x : Preparation) : Type 0 where
-  pub from : ℕ
-  pub delivers : input ≡ Deliver from (Accept node.state x)
+record TakesEntry (node : NodeRecord) (input : Input) (x : Preparation) : Type 0 where
+  from : ℕ
+  delivers : input ≡ Deliver from (Accept node.state x)
 
 -- a leader appends an entry of a new transaction
-pub record AppendsEntry (tests : Tests) (node : NodeRecord) (new : NodeRecord) (x : Preparation) : Type 0 where
-  pub txn : TxId
-  pub shards : List ℕ
-  pub part : Option Accesses
-  pub leads : is_leader node.role ≡ true
-  pub none : row_of node.rows txn ≡ None
-  pub entry : x ≡ new_entry tests node.rows txn shards part
-  pub is : new ≡ record node { rows = node.rows ++ undecided x ∷ [] }
+record AppendsEntry (tests : Tests) (node : NodeRecord) (new : NodeRecord) (x : Preparation) : Type 0 where
+  txn : TxId
+  shards : List ℕ
+  part : Option Accesses
+  leads : is_leader node.role ≡ true
+  none : row_of node.rows txn ≡ None
+  entry : x ≡ new_entry tests node.rows txn shards part
+  is : new ≡ record node { rows = node.rows ++ undecided x ∷ [] }
 
 not_least : (node : NodeRecord) (config : Membership) → MayFollow node config → config.epoch ≡ node.state → ⊥
 not_least node config may e = let low : least node ≤ config.epoch = may.epoch in omega (arith, low, e)
 
 -- the entries of a node that stays in its state epoch
-pub entries_by : (tests : Tests) (version : ℕ) (node : NodeRecord) (input : Input) (out : Out NodeRecord) → Effect tests version node input out → out.kept.state ≡ node.state → (x : Preparation) → StandsIn x (entries_of out.kept.rows)
+entries_by : (tests : Tests) (version : ℕ) (node : NodeRecord) (input : Input) (out : Out NodeRecord) → Effect tests version node input out → out.kept.state ≡ node.state → (x : Preparation) → StandsIn x (entries_of out.kept.rows)
     → StandsIn x (entries_of node.rows) ⊎ AppendsEntry tests node out.kept x ⊎ TakesEntry node input x
 entries_by tests version node input out (Appends from epoch txn shards part leads at among none full entry e) still x s = elim (joined-entries node.rows (undecided entry ∷ []) x s) [
   | inl k ↦ inl k

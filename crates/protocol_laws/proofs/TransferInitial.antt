@@ -46,7 +46,7 @@ after_there : (ws later : List World) (after : World) (rest : List World) → ws
 after_there ws later after rest e = subst (λ xs. StandsIn after xs) (sym e) (StandsIn-right later (after ∷ rest) after (inl refl))
 
 -- who became leader of a configuration reached it
-pub became_reached : (t : Moment) (c : Membership) (rows : List Row) → 1 ≤ c.epoch → BecameLeader t c rows → Reached t c.epoch c.leader
+became_reached : (t : Moment) (c : Membership) (rows : List Row) → 1 ≤ c.epoch → BecameLeader t c rows → Reached t c.epoch c.leader
 became_reached t c rows one b = record {
   node = b.node;
   was = record { moment = b.after; past = after_there (worlds t) b.later b.after (b.before ∷ b.earlier) b.moments; there = b.new_node; named = b.new_name; in_epoch = b.state };

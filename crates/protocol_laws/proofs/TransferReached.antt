@@ -31,13 +31,13 @@ numbered_there {X} f (y ∷ ys) from (suc n) k h low high = go (eq-or-lt_of_le l
     go (inr l) ih = let r = ih (omega (arith, l)) in (r.0, inr r.1, r.2)
 
 -- a member of a configuration is a node of its shard
-pub record IsThere (t : Moment) (c : Membership) (name : ℕ) : Type 0 where
-  pub node : NodeRecord
-  pub is : IsNode t node
-  pub named : node.name ≡ name
+record IsThere (t : Moment) (c : Membership) (name : ℕ) : Type 0 where
+  node : NodeRecord
+  is : IsNode t node
+  named : node.name ≡ name
 
 -- the members of what is stored after an event are nodes before it
-pub member_node : (setup : Deployment) (t u : Moment) → ConfigurationsHold setup t → ConfigurationsHold setup u → (c : Membership) (name : ℕ) → IsStored u c → StandsIn name c.members → IsThere t c name
+member_node : (setup : Deployment) (t u : Moment) → ConfigurationsHold setup t → ConfigurationsHold setup u → (c : Membership) (name : ℕ) → IsStored u c → StandsIn name c.members → IsThere t c name
 member_node setup t u ct cu c name s m =
     let of : is_node_of setup.nodes c.shard name ≡ true = all-StandsIn (is_node_of setup.nodes c.shard) c.members name (cu.members c s).nodes m in
     let has : has_node setup.nodes name ≡ true = left_of (has_node setup.nodes name) (slice_index setup.nodes (name - 1) == c.shard) of in

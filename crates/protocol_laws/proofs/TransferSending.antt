@@ -89,7 +89,7 @@ held_at rows slot txn (Some r) e h =
     record { entry = r.entry; there = StandsIn-map (λ (r : Row). r.entry) rows r f.0; at_slot = eqb-true r.entry.slot slot f.1; of_txn = same_txn-eq r.entry.txn txn h }
 
 -- what was accepted is there
-pub accepted-has : (rows : List Row) (entry : Preparation) → HasEntry (accepted rows entry) entry.slot entry.txn
+accepted-has : (rows : List Row) (entry : Preparation) → HasEntry (accepted rows entry) entry.slot entry.txn
 accepted-has rows entry = by (has_at rows entry.slot entry.txn) refl
   where
     by : (b : Bool) → has_at rows entry.slot entry.txn ≡ b → HasEntry (cond b rows (put_entry rows entry)) entry.slot entry.txn
