@@ -44,30 +44,15 @@ follower (Follower c) l f = cc l
 pub effect_appends : (tests : Tests) (version : ℕ) (node : NodeRecord) (input : Input) (out : Out NodeRecord) (entry : Preparation) → Effect tests version node input out
     → is_leader node.role ≡ true → out.kept.role ≡ node.role → out.kept.rows ≡ node.rows ++ undecided entry ∷ [] → entry.payload ≡ None → AsksWithout entry.txn input out
 effect_appends tests version node i o entry (Rests input answer notices h) l s more none = absurd (one_more node.rows entry more)
-effect_appends tests version node i o entry (Certifies payload h case e) l s more none = absurd (one_more node.rows entry more)
-effect_appends tests version node i o entry (TakesOver txn row a b c d case e) l s more none = absurd (one_more node.rows entry more)
-effect_appends tests version node i o entry Nudges l s more none = absurd (one_more node.rows entry more)
-effect_appends tests version node i o entry (Moves shard want) l s more none = absurd (one_more node.rows entry more)
-effect_appends tests version node i o entry (Lowers shard want epoch probed low a b c) l s more none = absurd (one_more node.rows entry more)
-effect_appends tests version node i o entry (Reads name a) l s more none = absurd (one_more node.rows entry more)
-effect_appends tests version node i o entry (Asks shard) l s more none = absurd (one_more node.rows entry more)
-effect_appends tests version node i o entry (AnswersAgain from epoch txn shards part row a b c d) l s more none = absurd (one_more node.rows entry more)
 effect_appends tests version node i o entry (Appends from epoch txn shards part a b c d g made e) l s more none =
     let same : made ≡ entry = same_last node.rows made entry more in
     let txns : txn ≡ entry.txn = ap (λ x. x.txn) (sym e ∙ same) in
     let parts : part ≡ None = ap (λ x. x.payload) (sym e ∙ same) ∙ none in
     record { from = from; epoch = epoch; shards = shards; is = ap (λ x. inputs.Deliver from (Prepare epoch x shards part)) txns ∙ ap (λ x. inputs.Deliver from (Prepare epoch entry.txn shards x)) parts; acted = refl }
-effect_appends tests version node i o entry (Votes from shard epoch x case part view a b c d out g) l s more none = absurd (one_more node.rows entry more)
-effect_appends tests version node i o entry (Acknowledges from shard epoch slot txn case part view a b c d out g) l s more none = absurd (one_more node.rows entry more)
-effect_appends tests version node i o entry (Changes from config a) l s more none = absurd (one_more node.rows entry more)
-effect_appends tests version node i o entry (Learns from config coordinator sent stage asked a b) l s more none = absurd (one_more node.rows entry more)
-effect_appends tests version node i o entry (Keeps from txn decision a b) l s more none = absurd (one_more node.rows entry more)
 effect_appends tests version node i o entry (Accepts from epoch x a b t) l s more none = absurd (follower node.role l a)
 effect_appends tests version node i o entry (Marks from epoch slot txn commit a b) l s more none = absurd (more_rows node.rows (marked node.rows slot (mark_of commit)) entry (length-map node.rows (λ r. if r.entry.slot == slot then set_mark (mark_of commit) r else r)) more)
-effect_appends tests version node i o entry (Promises from epoch a) l s more none = absurd (one_more node.rows entry more)
-effect_appends tests version node i o entry (Chooses from state shard want epoch probed low a b c) l s more none = absurd (one_more node.rows entry more)
-effect_appends tests version node i o entry (FindsLow from state shard want epoch probed low a b c) l s more none = absurd (one_more node.rows entry more)
 effect_appends tests version node i o entry (Leads from config a b c d) l s more none = absurd (cc (l, ap (λ x. is_leader x) b))
 effect_appends tests version node i o entry (Follows from config rows a b) l s more none = absurd (cc (l, ap (λ x. is_leader x) s))
 effect_appends tests version node i o entry (Gathers from config number pieces rows gathering a b c d e) l s more none = absurd (one_more node.rows entry more)
 effect_appends tests version node i o entry (FollowsPieces from config number pieces rows gathering a b c d e) l s more none = absurd (cc (l, ap (λ x. is_leader x) s))
+effect_appends tests version node i o entry _ l s more none = absurd (one_more node.rows entry more)

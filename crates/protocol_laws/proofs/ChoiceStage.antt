@@ -133,26 +133,9 @@ chooses t me shard want epoch probed low from state w s l = record {
 pub stage_holds : (setup : Deployment) (old : Moment) (tests : Tests) (version : ℕ) (node : NodeRecord) (input : Input) (out : Out NodeRecord) → Effect tests version node input out
     → ConfigurationsHold setup old → AnswersHold old → IsNode old node → ((from : ℕ) (m : Message) → input ≡ inputs.Deliver from m → WasSent old from node.name m) → StageHolds old node.prober → StageHolds old out.kept.prober
 stage_holds setup old tests version node input out (Rests i answer notices n) c answers is heard k = k
-stage_holds setup old tests version node input out (Certifies payload n case e) c answers is heard k = k
-stage_holds setup old tests version node input out (TakesOver txn row r u n m case e) c answers is heard k = k
-stage_holds setup old tests version node input out Nudges c answers is heard k = k
 stage_holds setup old tests version node input out (Moves shard want) c answers is heard k = tt
 stage_holds setup old tests version node input out (Lowers shard want epoch probed low e l p) c answers is heard k = lowers-stands old shard epoch probed low (probes-well setup old node shard want epoch probed low c is k e) l p
-stage_holds setup old tests version node input out (Reads name l) c answers is heard k = k
-stage_holds setup old tests version node input out (Asks shard) c answers is heard k = k
-stage_holds setup old tests version node input out (AnswersAgain from epoch txn shards part row l e a r) c answers is heard k = k
-stage_holds setup old tests version node input out (Appends from epoch txn shards part l e a r f entry n) c answers is heard k = k
-stage_holds setup old tests version node input out (Votes from shard epoch entry case part view p e l f o g) c answers is heard k = k
-stage_holds setup old tests version node input out (Acknowledges from shard epoch slot txn case part view p e l f o g) c answers is heard k = k
-stage_holds setup old tests version node input out (Changes from config n) c answers is heard k = k
 stage_holds setup old tests version node input out (Learns from config coordinator sent stage asked y h) c answers is heard k = hears-holds setup old node.name config _ node.prober stage asked c (c.in_messages from node.name (Stored config) config (heard from (Stored config) refl) refl) h k
-stage_holds setup old tests version node input out (Keeps from txn decision h n) c answers is heard k = k
-stage_holds setup old tests version node input out (Accepts from epoch entry f e t) c answers is heard k = k
-stage_holds setup old tests version node input out (Marks from epoch slot txn commit e h) c answers is heard k = k
-stage_holds setup old tests version node input out (Promises from epoch l) c answers is heard k = k
 stage_holds setup old tests version node input out (Chooses from told shard want epoch probed low e a l) c answers is heard k = chooses old node.name shard want epoch probed low from told (probes-well setup old node shard want epoch probed low c is k e) (heard from (ProbeAck epoch told) refl) l
 stage_holds setup old tests version node input out (FindsLow from told shard want epoch probed low e a l) c answers is heard k = finds-low old shard want epoch probed low from told (probes-well setup old node shard want epoch probed low c is k e) (answers.each from node.name epoch told (heard from (ProbeAck epoch told) refl)) a l
-stage_holds setup old tests version node input out (Leads from config q r p l) c answers is heard k = k
-stage_holds setup old tests version node input out (Follows from config rows v m) c answers is heard k = k
-stage_holds setup old tests version node input out (Gathers from config number pieces rows gathering v m t g w) c answers is heard k = k
-stage_holds setup old tests version node input out (FollowsPieces from config number pieces rows gathering v m t g w) c answers is heard k = k
+stage_holds setup old tests version node input out _ c answers is heard k = k

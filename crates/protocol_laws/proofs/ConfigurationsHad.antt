@@ -105,57 +105,21 @@ sees-had k from config c seen sends (KeepsView n) s = inl s
 views_had : (tests : Tests) (version : ℕ) (node : NodeRecord) (input : Input) (out : Out NodeRecord) → Effect tests version node input out
     → (c : Membership) → StandsIn c out.kept.coordinator.views → StandsIn c node.coordinator.views ⊎ Heard input c
 views_had tests version node input out (Rests i answer notices n) c s = inl s
-views_had tests version node input out (Certifies payload n case e) c s = inl s
-views_had tests version node input out (TakesOver txn row r u n m case e) c s = inl s
-views_had tests version node input out Nudges c s = inl s
-views_had tests version node input out (Moves shard want) c s = inl s
-views_had tests version node input out (Lowers shard want epoch probed low e l p) c s = inl s
-views_had tests version node input out (Reads name l) c s = inl s
-views_had tests version node input out (Asks shard) c s = inl s
-views_had tests version node input out (AnswersAgain from epoch txn shards part row l e a r) c s = inl s
-views_had tests version node input out (Appends from epoch txn shards part l e a r f entry n) c s = inl s
 views_had tests version node input out (Votes from shard epoch entry case part view p e l f o g) c s = inl (subst (λ vs. StandsIn c vs) (goes_on-views _ _ _ _ o g) s)
 views_had tests version node input out (Acknowledges from shard epoch slot txn case part view p e l f o g) c s = inl (subst (λ vs. StandsIn c vs) (goes_on-views _ _ _ _ o g) s)
 views_had tests version node input out (Changes from config n) c s = changed_view-had node.coordinator from (ConfigChange config) config c refl s
 views_had tests version node input out (Learns from config coordinator sent stage asked y h) c s = sees-had node.coordinator from config c coordinator sent y s
-views_had tests version node input out (Keeps from txn decision h n) c s = inl s
-views_had tests version node input out (Accepts from epoch entry f e t) c s = inl s
-views_had tests version node input out (Marks from epoch slot txn commit e h) c s = inl s
-views_had tests version node input out (Promises from epoch l) c s = inl s
-views_had tests version node input out (Chooses from told shard want epoch probed low e a l) c s = inl s
-views_had tests version node input out (FindsLow from told shard want epoch probed low e a l) c s = inl s
-views_had tests version node input out (Leads from config q r p l) c s = inl s
-views_had tests version node input out (Follows from config rows v m) c s = inl s
-views_had tests version node input out (Gathers from config number pieces rows gathering v m t g w) c s = inl s
-views_had tests version node input out (FollowsPieces from config number pieces rows gathering v m t g w) c s = inl s
+views_had tests version node input out _ c s = inl s
 
 -- the configuration of the role after an event
 role_had : (tests : Tests) (version : ℕ) (node : NodeRecord) (input : Input) (out : Out NodeRecord) → Effect tests version node input out
     → (c : Membership) → StandsIn c (role_configs out.kept.role) → StandsIn c (role_configs node.role) ⊎ Heard input c
 role_had tests version node input out (Rests i answer notices n) c s = inl s
-role_had tests version node input out (Certifies payload n case e) c s = inl s
-role_had tests version node input out (TakesOver txn row r u n m case e) c s = inl s
-role_had tests version node input out Nudges c s = inl s
-role_had tests version node input out (Moves shard want) c s = inl s
-role_had tests version node input out (Lowers shard want epoch probed low e l p) c s = inl s
-role_had tests version node input out (Reads name l) c s = inl s
-role_had tests version node input out (Asks shard) c s = inl s
-role_had tests version node input out (AnswersAgain from epoch txn shards part row l e a r) c s = inl s
-role_had tests version node input out (Appends from epoch txn shards part l e a r f entry n) c s = inl s
-role_had tests version node input out (Votes from shard epoch entry case part view p e l f o g) c s = inl s
-role_had tests version node input out (Acknowledges from shard epoch slot txn case part view p e l f o g) c s = inl s
-role_had tests version node input out (Changes from config n) c s = inl s
-role_had tests version node input out (Learns from config coordinator sent stage asked y h) c s = inl s
-role_had tests version node input out (Keeps from txn decision h n) c s = inl s
-role_had tests version node input out (Accepts from epoch entry f e t) c s = inl s
-role_had tests version node input out (Marks from epoch slot txn commit e h) c s = inl s
 role_had tests version node input out (Promises from epoch l) c s = absurd s
-role_had tests version node input out (Chooses from told shard want epoch probed low e a l) c s = inl s
-role_had tests version node input out (FindsLow from told shard want epoch probed low e a l) c s = inl s
 role_had tests version node input out (Leads from config q r p l) c s = inr (is_heard from (NewConfig config) config c refl (only c config s))
 role_had tests version node input out (Follows from config rows v m) c s = inr (is_heard from (NewState config rows) config c refl (only c config s))
-role_had tests version node input out (Gathers from config number pieces rows gathering v m t g w) c s = inl s
 role_had tests version node input out (FollowsPieces from config number pieces rows gathering v m t g w) c s = inr (is_heard from (StatePiece config number pieces rows) config c refl (only c config s))
+role_had tests version node input out _ c s = inl s
 
 hears-had : (from me : ℕ) (config c : Membership) (view : ℕ) (old new : Stage) (sends : List Outgoing) → Hears me config view old new sends → StandsIn c (probed_configs new) → StandsIn c (probed_configs old) ⊎ Heard (inputs.Deliver from (Stored config)) c
 hears-had from me config c view old new sends (Waits stage) s = inl s
@@ -167,29 +131,12 @@ hears-had from me config c view old new sends (IsDone k h e) s = absurd s
 prober_had : (tests : Tests) (version : ℕ) (node : NodeRecord) (input : Input) (out : Out NodeRecord) → Effect tests version node input out
     → (c : Membership) → StandsIn c (probed_configs out.kept.prober) → StandsIn c (probed_configs node.prober) ⊎ Heard input c
 prober_had tests version node input out (Rests i answer notices n) c s = inl s
-prober_had tests version node input out (Certifies payload n case e) c s = inl s
-prober_had tests version node input out (TakesOver txn row r u n m case e) c s = inl s
-prober_had tests version node input out Nudges c s = inl s
 prober_had tests version node input out (Moves shard want) c s = absurd s
 prober_had tests version node input out (Lowers shard want epoch probed low e l p) c s = absurd s
-prober_had tests version node input out (Reads name l) c s = inl s
-prober_had tests version node input out (Asks shard) c s = inl s
-prober_had tests version node input out (AnswersAgain from epoch txn shards part row l e a r) c s = inl s
-prober_had tests version node input out (Appends from epoch txn shards part l e a r f entry n) c s = inl s
-prober_had tests version node input out (Votes from shard epoch entry case part view p e l f o g) c s = inl s
-prober_had tests version node input out (Acknowledges from shard epoch slot txn case part view p e l f o g) c s = inl s
-prober_had tests version node input out (Changes from config n) c s = inl s
 prober_had tests version node input out (Learns from config coordinator sent stage asked y h) c s = hears-had from node.name config c _ node.prober stage asked h s
-prober_had tests version node input out (Keeps from txn decision h n) c s = inl s
-prober_had tests version node input out (Accepts from epoch entry f e t) c s = inl s
-prober_had tests version node input out (Marks from epoch slot txn commit e h) c s = inl s
-prober_had tests version node input out (Promises from epoch l) c s = inl s
 prober_had tests version node input out (Chooses from told shard want epoch probed low e a l) c s = absurd s
 prober_had tests version node input out (FindsLow from told shard want epoch probed low e a l) c s = inl (subst (λ p. StandsIn c (probed_configs p)) (sym e) s)
-prober_had tests version node input out (Leads from config q r p l) c s = inl s
-prober_had tests version node input out (Follows from config rows v m) c s = inl s
-prober_had tests version node input out (Gathers from config number pieces rows gathering v m t g w) c s = inl s
-prober_had tests version node input out (FollowsPieces from config number pieces rows gathering v m t g w) c s = inl s
+prober_had tests version node input out _ c s = inl s
 
 gathered_from-had : (epoch : ℕ) (g : Option Gathering) (c : Membership) → StandsIn c (gathered_configs (gathered_from epoch g)) → StandsIn c (gathered_configs g)
 gathered_from-had epoch None c s = s
@@ -228,29 +175,11 @@ gathers-had from number rows g config c pieces more e s =
 gathering_had : (tests : Tests) (version : ℕ) (node : NodeRecord) (input : Input) (out : Out NodeRecord) → Effect tests version node input out
     → (c : Membership) → StandsIn c (gathered_configs out.kept.gathering) → StandsIn c (gathered_configs node.gathering) ⊎ Heard input c
 gathering_had tests version node input out (Rests i answer notices n) c s = inl s
-gathering_had tests version node input out (Certifies payload n case e) c s = inl s
-gathering_had tests version node input out (TakesOver txn row r u n m case e) c s = inl s
-gathering_had tests version node input out Nudges c s = inl s
-gathering_had tests version node input out (Moves shard want) c s = inl s
-gathering_had tests version node input out (Lowers shard want epoch probed low e l p) c s = inl s
-gathering_had tests version node input out (Reads name l) c s = inl s
-gathering_had tests version node input out (Asks shard) c s = inl s
-gathering_had tests version node input out (AnswersAgain from epoch txn shards part row l e a r) c s = inl s
-gathering_had tests version node input out (Appends from epoch txn shards part l e a r f entry n) c s = inl s
-gathering_had tests version node input out (Votes from shard epoch entry case part view p e l f o g) c s = inl s
-gathering_had tests version node input out (Acknowledges from shard epoch slot txn case part view p e l f o g) c s = inl s
-gathering_had tests version node input out (Changes from config n) c s = inl s
-gathering_had tests version node input out (Learns from config coordinator sent stage asked y h) c s = inl s
-gathering_had tests version node input out (Keeps from txn decision h n) c s = inl s
-gathering_had tests version node input out (Accepts from epoch entry f e t) c s = inl s
-gathering_had tests version node input out (Marks from epoch slot txn commit e h) c s = inl s
 gathering_had tests version node input out (Promises from epoch l) c s = inl (gathered_from-had epoch node.gathering c s)
-gathering_had tests version node input out (Chooses from told shard want epoch probed low e a l) c s = inl s
-gathering_had tests version node input out (FindsLow from told shard want epoch probed low e a l) c s = inl s
-gathering_had tests version node input out (Leads from config q r p l) c s = inl s
 gathering_had tests version node input out (Follows from config rows v m) c s = inl (gathered_from-had config.epoch node.gathering c s)
 gathering_had tests version node input out (Gathers from config number pieces rows gathering v m t g w) c s = gathers-had from number rows node.gathering config c pieces gathering g s
 gathering_had tests version node input out (FollowsPieces from config number pieces rows gathering v m t g w) c s = absurd s
+gathering_had tests version node input out _ c s = inl s
 
 -- A configuration that a node has after an event it had, or was told.
 pub configs_had : (tests : Tests) (version : ℕ) (node : NodeRecord) (input : Input) (out : Out NodeRecord) → Effect tests version node input out

@@ -100,7 +100,6 @@ says tests version node input out Nudges =
     (each-stage (Said node node inputs.Nudge) node.prober (λ name epoch. Plainly _ refl) (λ shard. Plainly _ refl) (λ shard epoch. Plainly _ refl) (λ config e. Proposes config e))
 says tests version node input out (Moves shard want) = each-one (Said node _ _) _ (Plainly _ refl)
 says tests version node input out (Lowers shard want epoch probed low e l p) = each-one (Said node _ _) _ (Plainly _ refl)
-says tests version node input out (Reads name l) = λ o s. absurd s
 says tests version node input out (Asks shard) = each-one (Said node _ _) _ (Plainly _ refl)
 says tests version node input out (AnswersAgain from epoch txn shards part row l e a r) = each-one (Said node _ _) _ (Plainly _ refl)
 says tests version node input out (Appends from epoch txn shards part l e a r f entry n) = each-one (Said node _ _) _ (Plainly _ refl)
@@ -110,14 +109,9 @@ says tests version node input out (Changes from config n) = ask_leader-said node
 says tests version node input out (Learns from config coordinator sent stage asked s h) =
     each-both (Said node _ _) sent asked (each-sees (Said node _ _) node.coordinator config coordinator sent s (ask_leader-said node _ _ node.coordinator config))
     (each-hears (Said node _ _) node.name config _ node.prober stage asked h (λ name epoch. Plainly _ refl) (Tells _ from (Stored config) config refl refl refl))
-says tests version node input out (Keeps from txn decision h n) = λ o s. absurd s
 says tests version node input out (Accepts from epoch entry f e t) = each-one (Said node _ _) _ (Plainly _ refl)
-says tests version node input out (Marks from epoch slot txn commit e h) = λ o s. absurd s
 says tests version node input out (Promises from epoch l) = each-one (Said node _ _) _ (Answers from epoch refl l refl refl)
 says tests version node input out (Chooses from state shard want epoch probed low e a l) = each-one (Said node _ _) _ (Proposes _ refl)
-says tests version node input out (FindsLow from state shard want epoch probed low e a l) = λ o s. absurd s
 says tests version node input out (Leads from config s r p l) =
     each-state (Said node _ _) version config node.rows (λ name. Tells _ from (NewConfig config) config refl refl refl) (λ name k s. Tells _ from (NewConfig config) config refl refl refl)
-says tests version node input out (Follows from config rows v m) = λ o s. absurd s
-says tests version node input out (Gathers from config number pieces rows gathering v m t g w) = λ o s. absurd s
-says tests version node input out (FollowsPieces from config number pieces rows gathering v m t g w) = λ o s. absurd s
+says tests version node input out _ = λ o s. absurd s

@@ -34,26 +34,8 @@ same node kept n s v = record { name = n; shard = s; views = v }
 
 pub same_node : (tests : Tests) (version : ℕ) (node : NodeRecord) (input : Input) (out : Out NodeRecord) → Effect tests version node input out → SameNode node out.kept
 same_node tests version node input out (Rests i answer notices n) = same node _ refl refl refl
-same_node tests version node input out (Certifies payload n case e) = same node _ refl refl refl
-same_node tests version node input out (TakesOver txn row r u n m case e) = same node _ refl refl refl
-same_node tests version node input out Nudges = same node _ refl refl refl
-same_node tests version node input out (Moves shard want) = same node _ refl refl refl
-same_node tests version node input out (Lowers shard want epoch probed low e l p) = same node _ refl refl refl
-same_node tests version node input out (Reads name l) = same node _ refl refl refl
-same_node tests version node input out (Asks shard) = same node _ refl refl refl
-same_node tests version node input out (AnswersAgain from epoch txn shards part row l e a r) = same node _ refl refl refl
-same_node tests version node input out (Appends from epoch txn shards part l e a r f entry n) = same node _ refl refl refl
 same_node tests version node input out (Votes from shard epoch entry case part view p e l f o g) = same node _ refl refl (ap (λ vs. map (λ v. v.shard) vs) (goes_on-views _ _ _ _ o g))
 same_node tests version node input out (Acknowledges from shard epoch slot txn case part view p e l f o g) = same node _ refl refl (ap (λ vs. map (λ v. v.shard) vs) (goes_on-views _ _ _ _ o g))
 same_node tests version node input out (Changes from config n) = same node _ refl refl (changed_view-shards node.coordinator config)
 same_node tests version node input out (Learns from config coordinator sent stage asked y h) = same node _ refl refl (sees-shards node.coordinator config coordinator sent y)
-same_node tests version node input out (Keeps from txn decision h n) = same node _ refl refl refl
-same_node tests version node input out (Accepts from epoch entry f e t) = same node _ refl refl refl
-same_node tests version node input out (Marks from epoch slot txn commit e h) = same node _ refl refl refl
-same_node tests version node input out (Promises from epoch l) = same node _ refl refl refl
-same_node tests version node input out (Chooses from told shard want epoch probed low e a l) = same node _ refl refl refl
-same_node tests version node input out (FindsLow from told shard want epoch probed low e a l) = same node _ refl refl refl
-same_node tests version node input out (Leads from config q r p l) = same node _ refl refl refl
-same_node tests version node input out (Follows from config rows v m) = same node _ refl refl refl
-same_node tests version node input out (Gathers from config number pieces rows gathering v m t g w) = same node _ refl refl refl
-same_node tests version node input out (FollowsPieces from config number pieces rows gathering v m t g w) = same node _ refl refl refl
+same_node tests version node input out _ = same node _ refl refl refl

@@ -56,26 +56,9 @@ probed-node setup shard from c h e a = all-StandsIn (is_node_of setup.nodes shar
 pub wants_kept : (setup : Deployment) (tests : Tests) (version : ℕ) (node : NodeRecord) (input : Input) (out : Out NodeRecord) → Effect tests version node input out
     → WantsWell setup node.prober → ((shard : ℕ) (want : List ℕ) → input ≡ inputs.Move shard want → IsTrue (list_all (is_node_of setup.nodes shard) want)) → WantsNodes setup out.kept.prober
 wants_kept setup tests version node input out (Rests i answer notices n) k moves = k.wants
-wants_kept setup tests version node input out (Certifies payload n case e) k moves = k.wants
-wants_kept setup tests version node input out (TakesOver txn row r u n m case e) k moves = k.wants
-wants_kept setup tests version node input out Nudges k moves = k.wants
 wants_kept setup tests version node input out (Moves shard want) k moves = moves shard want refl
 wants_kept setup tests version node input out (Lowers shard want epoch probed low e l p) k moves = subst (λ p. WantsNodes setup p) e k.wants
-wants_kept setup tests version node input out (Reads name l) k moves = k.wants
-wants_kept setup tests version node input out (Asks shard) k moves = k.wants
-wants_kept setup tests version node input out (AnswersAgain from epoch txn shards part row l e a r) k moves = k.wants
-wants_kept setup tests version node input out (Appends from epoch txn shards part l e a r f entry n) k moves = k.wants
-wants_kept setup tests version node input out (Votes from shard epoch entry case part view p e l f o g) k moves = k.wants
-wants_kept setup tests version node input out (Acknowledges from shard epoch slot txn case part view p e l f o g) k moves = k.wants
-wants_kept setup tests version node input out (Changes from config n) k moves = k.wants
 wants_kept setup tests version node input out (Learns from config coordinator sent stage asked y h) k moves = hears-wants setup node.name config _ node.prober stage asked h k.wants
-wants_kept setup tests version node input out (Keeps from txn decision h n) k moves = k.wants
-wants_kept setup tests version node input out (Accepts from epoch entry f e t) k moves = k.wants
-wants_kept setup tests version node input out (Marks from epoch slot txn commit e h) k moves = k.wants
-wants_kept setup tests version node input out (Promises from epoch l) k moves = k.wants
 wants_kept setup tests version node input out (Chooses from told shard want epoch probed low e a l) k moves = proposed-HasMembers setup node.name shard epoch want from (probed-node setup shard from probed (k.probed shard want epoch probed low e).0 (k.probed shard want epoch probed low e).1 a) (subst (λ p. WantsNodes setup p) e k.wants)
 wants_kept setup tests version node input out (FindsLow from told shard want epoch probed low e a l) k moves = subst (λ p. WantsNodes setup p) e k.wants
-wants_kept setup tests version node input out (Leads from config q r p l) k moves = k.wants
-wants_kept setup tests version node input out (Follows from config rows v m) k moves = k.wants
-wants_kept setup tests version node input out (Gathers from config number pieces rows gathering v m t g w) k moves = k.wants
-wants_kept setup tests version node input out (FollowsPieces from config number pieces rows gathering v m t g w) k moves = k.wants
+wants_kept setup tests version node input out _ k moves = k.wants

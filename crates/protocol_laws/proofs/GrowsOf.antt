@@ -59,26 +59,12 @@ StartsAtOne input = (from : ℕ) (config : Membership) → input ≡ inputs.Deli
 pub grows_of : (tests : Tests) (version : ℕ) (node : NodeRecord) (input : Input) (out : Out NodeRecord) → FitsRole node node.role → StartsAtOne input → Effect tests version node input out → Grows node out.kept
 grows_of tests version node i o f l (Rests input answer notices h) = quiet node node refl refl refl refl refl refl
 grows_of tests version node i o f l (Certifies payload h case e) = same_log node o.kept refl refl refl refl refl (omega arith)
-grows_of tests version node i o f l (TakesOver txn row a b c d case e) = quiet node o.kept refl refl refl refl refl refl
-grows_of tests version node i o f l Nudges = quiet node o.kept refl refl refl refl refl refl
-grows_of tests version node i o f l (Moves shard want) = quiet node o.kept refl refl refl refl refl refl
-grows_of tests version node i o f l (Lowers shard want epoch probed low a b c) = quiet node o.kept refl refl refl refl refl refl
-grows_of tests version node i o f l (Reads name a) = quiet node o.kept refl refl refl refl refl refl
-grows_of tests version node i o f l (Asks shard) = quiet node o.kept refl refl refl refl refl refl
-grows_of tests version node i o f l (AnswersAgain from epoch txn shards part row a b c d) = quiet node o.kept refl refl refl refl refl refl
 grows_of tests version node i o f l (Appends from epoch txn shards part a b c d g entry e) =
     new_rows node (node.rows ++ undecided entry ∷ []) (λ x s. subst (λ xs. StandsIn x xs) (sym (map-append (λ r. r.entry) node.rows (undecided entry ∷ []))) (StandsIn-left (entries_of node.rows) (entry ∷ []) x s))
-grows_of tests version node i o f l (Votes from shard epoch entry case part view a b c d out g) = quiet node o.kept refl refl refl refl refl refl
-grows_of tests version node i o f l (Acknowledges from shard epoch slot txn case part view a b c d out g) = quiet node o.kept refl refl refl refl refl refl
-grows_of tests version node i o f l (Changes from config a) = quiet node o.kept refl refl refl refl refl refl
-grows_of tests version node i o f l (Learns from config coordinator sent stage asked a b) = quiet node o.kept refl refl refl refl refl refl
-grows_of tests version node i o f l (Keeps from txn decision a b) = quiet node o.kept refl refl refl refl refl refl
 grows_of tests version node i o f l (Accepts from epoch entry a b t) = new_rows node (accepted node.rows entry) (λ x s. accepted-keeps node.rows entry x t s)
 grows_of tests version node i o f l (Marks from epoch slot txn commit a b) = new_rows node (marked node.rows slot (mark_of commit)) (λ x s. subst (λ xs. StandsIn x xs) (sym (entries_of-marked node.rows slot (mark_of commit))) s)
 grows_of tests version node i o f l (Promises from epoch a) = record { name = refl; shard = refl; promised = omega (arith, a); state = inl refl; next = omega arith; entries = λ e x s. s }
-grows_of tests version node i o f l (Chooses from state shard want epoch probed low a b c) = quiet node o.kept refl refl refl refl refl refl
-grows_of tests version node i o f l (FindsLow from state shard want epoch probed low a b c) = quiet node o.kept refl refl refl refl refl refl
 grows_of tests version node i o f l (Leads from config a b c d) = new_state node o.kept refl refl (omega arith) (may_lead node config.epoch f b c (l from config refl)) (omega arith)
 grows_of tests version node i o f l (Follows from config rows a b) = new_state node o.kept refl refl (let m : least node ≤ config.epoch = b.epoch in omega (arith, m)) b.epoch (omega arith)
-grows_of tests version node i o f l (Gathers from config number pieces rows gathering a b c d e) = quiet node o.kept refl refl refl refl refl refl
 grows_of tests version node i o f l (FollowsPieces from config number pieces rows gathering a b c d e) = new_state node o.kept refl refl (let m : least node ≤ config.epoch = b.epoch in omega (arith, m)) b.epoch (omega arith)
+grows_of tests version node i o f l _ = quiet node o.kept refl refl refl refl refl refl

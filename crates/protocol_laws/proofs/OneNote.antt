@@ -31,27 +31,10 @@ effect-one : (tests : Tests) (version : ℕ) (node : NodeRecord) (input : Input)
 effect-one tests version node i o (Rests input answer notices h) = inl refl
 effect-one tests version node i o (Certifies payload h case e) = inr (notes.Begin (next_txn node) payload, refl)
 effect-one tests version node i o (TakesOver txn row a b c d case e) = inr (notes.Take txn, refl)
-effect-one tests version node i o Nudges = inl refl
-effect-one tests version node i o (Moves shard want) = inl refl
-effect-one tests version node i o (Lowers shard want epoch probed low a b c) = inl refl
 effect-one tests version node i o (Reads name a) = inr (notes.ReadValue name (read_of node.rows name).version (value_or_empty (read_of node.rows name).value), refl)
-effect-one tests version node i o (Asks shard) = inl refl
-effect-one tests version node i o (AnswersAgain from epoch txn shards part row a b c d) = inl refl
-effect-one tests version node i o (Appends from epoch txn shards part a b c d g entry e) = inl refl
 effect-one tests version node i o (Votes from shard epoch entry case part view a b c d out g) = goes_on-one _ _ _ _ out g
 effect-one tests version node i o (Acknowledges from shard epoch slot txn case part view a b c d out g) = goes_on-one _ _ _ _ out g
-effect-one tests version node i o (Changes from config a) = inl refl
-effect-one tests version node i o (Learns from config coordinator sent stage asked a b) = inl refl
-effect-one tests version node i o (Keeps from txn decision a b) = inl refl
-effect-one tests version node i o (Accepts from epoch entry a b t) = inl refl
-effect-one tests version node i o (Marks from epoch slot txn commit a b) = inl refl
-effect-one tests version node i o (Promises from epoch a) = inl refl
-effect-one tests version node i o (Chooses from state shard want epoch probed low a b c) = inl refl
-effect-one tests version node i o (FindsLow from state shard want epoch probed low a b c) = inl refl
-effect-one tests version node i o (Leads from config a b c d) = inl refl
-effect-one tests version node i o (Follows from config rows a b) = inl refl
-effect-one tests version node i o (Gathers from config number pieces rows gathering a b c d e) = inl refl
-effect-one tests version node i o (FollowsPieces from config number pieces rows gathering a b c d e) = inl refl
+effect-one tests version node i o _ = inl refl
 
 -- a history goes on by at most one note
 pub record GoesOnByOne (old new : List Note) : Type 0 where

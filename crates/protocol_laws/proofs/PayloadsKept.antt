@@ -27,27 +27,10 @@ effect-begins : (tests : Tests) (version : ℕ) (node : NodeRecord) (input : Inp
 effect-begins tests version node i o begun whole (Rests input answer notices h) s = absurd s
 effect-begins tests version node i o begun whole (Certifies payload h case e) s = elim s [ inl k ↦ ap (λ x. inputs.Certify x) (cc k) | inr z ↦ absurd z ]
 effect-begins tests version node i o begun whole (TakesOver txn row a b c d case e) s = elim s [ inl k ↦ absurd (cc k) | inr z ↦ absurd z ]
-effect-begins tests version node i o begun whole Nudges s = absurd s
-effect-begins tests version node i o begun whole (Moves shard want) s = absurd s
-effect-begins tests version node i o begun whole (Lowers shard want epoch probed low a b c) s = absurd s
 effect-begins tests version node i o begun whole (Reads name a) s = elim s [ inl k ↦ absurd (cc k) | inr z ↦ absurd z ]
-effect-begins tests version node i o begun whole (Asks shard) s = absurd s
-effect-begins tests version node i o begun whole (AnswersAgain from epoch txn shards part row a b c d) s = absurd s
-effect-begins tests version node i o begun whole (Appends from epoch txn shards part a b c d g entry e) s = absurd s
 effect-begins tests version node i o begun whole (Votes from shard epoch entry case part view a b c d out g) s = absurd (goes_on-begins _ _ _ _ out begun whole g s)
 effect-begins tests version node i o begun whole (Acknowledges from shard epoch slot txn case part view a b c d out g) s = absurd (goes_on-begins _ _ _ _ out begun whole g s)
-effect-begins tests version node i o begun whole (Changes from config a) s = absurd s
-effect-begins tests version node i o begun whole (Learns from config coordinator sent stage asked a b) s = absurd s
-effect-begins tests version node i o begun whole (Keeps from txn decision a b) s = absurd s
-effect-begins tests version node i o begun whole (Accepts from epoch entry a b t) s = absurd s
-effect-begins tests version node i o begun whole (Marks from epoch slot txn commit a b) s = absurd s
-effect-begins tests version node i o begun whole (Promises from epoch a) s = absurd s
-effect-begins tests version node i o begun whole (Chooses from state shard want epoch probed low a b c) s = absurd s
-effect-begins tests version node i o begun whole (FindsLow from state shard want epoch probed low a b c) s = absurd s
-effect-begins tests version node i o begun whole (Leads from config a b c d) s = absurd s
-effect-begins tests version node i o begun whole (Follows from config rows a b) s = absurd s
-effect-begins tests version node i o begun whole (Gathers from config number pieces rows gathering a b c d e) s = absurd s
-effect-begins tests version node i o begun whole (FollowsPieces from config number pieces rows gathering a b c d e) s = absurd s
+effect-begins tests version node i o begun whole _ s = absurd s
 
 serves-begins : (nodes : ℕ) (configs : List Membership) (from : ℕ) (message : Message) (out : Out (List Membership)) (begun : TxId) (whole : Accesses) → Serves nodes configs from message out → StandsIn (Begin begun whole) out.notes → ⊥
 serves-begins nodes configs from m o begun whole (HoldsBack message answer notices h) s = s

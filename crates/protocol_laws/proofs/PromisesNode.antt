@@ -41,29 +41,11 @@ follows-fits node kept c m n s e p = (record { shard = m.shard ∙ sym s; epoch 
 -- the role fits
 pub role_fits : (tests : Tests) (version : ℕ) (node : NodeRecord) (input : Input) (out : Out NodeRecord) → Effect tests version node input out → FitsRole node node.role → FitsRole out.kept out.kept.role
 role_fits tests version node input out (Rests i answer notices n) k = fits_as node _ node.role refl refl refl refl k
-role_fits tests version node input out (Certifies payload n case e) k = fits_as node _ node.role refl refl refl refl k
-role_fits tests version node input out (TakesOver txn row r u n m case e) k = fits_as node _ node.role refl refl refl refl k
-role_fits tests version node input out Nudges k = fits_as node _ node.role refl refl refl refl k
-role_fits tests version node input out (Moves shard want) k = fits_as node _ node.role refl refl refl refl k
-role_fits tests version node input out (Lowers shard want epoch probed low e l p) k = fits_as node _ node.role refl refl refl refl k
-role_fits tests version node input out (Reads name l) k = fits_as node _ node.role refl refl refl refl k
-role_fits tests version node input out (Asks shard) k = fits_as node _ node.role refl refl refl refl k
-role_fits tests version node input out (AnswersAgain from epoch txn shards part row l e a r) k = fits_as node _ node.role refl refl refl refl k
-role_fits tests version node input out (Appends from epoch txn shards part l e a r f entry n) k = fits_as node _ node.role refl refl refl refl k
-role_fits tests version node input out (Votes from shard epoch entry case part view p e l f o g) k = fits_as node _ node.role refl refl refl refl k
-role_fits tests version node input out (Acknowledges from shard epoch slot txn case part view p e l f o g) k = fits_as node _ node.role refl refl refl refl k
-role_fits tests version node input out (Changes from config n) k = fits_as node _ node.role refl refl refl refl k
-role_fits tests version node input out (Learns from config coordinator sent stage asked y h) k = fits_as node _ node.role refl refl refl refl k
-role_fits tests version node input out (Keeps from txn decision h n) k = fits_as node _ node.role refl refl refl refl k
-role_fits tests version node input out (Accepts from epoch entry f e t) k = fits_as node _ node.role refl refl refl refl k
-role_fits tests version node input out (Marks from epoch slot txn commit e h) k = fits_as node _ node.role refl refl refl refl k
 role_fits tests version node input out (Promises from epoch l) k = inl (omega (arith, l))
-role_fits tests version node input out (Chooses from told shard want epoch probed low e a l) k = fits_as node _ node.role refl refl refl refl k
-role_fits tests version node input out (FindsLow from told shard want epoch probed low e a l) k = fits_as node _ node.role refl refl refl refl k
 role_fits tests version node input out (Leads from config q r p l) k = (record { shard = q; epoch = refl; promise = p }, l)
 role_fits tests version node input out (Follows from config rows v m) k = follows-fits node _ config m refl refl refl refl
-role_fits tests version node input out (Gathers from config number pieces rows gathering v m t g w) k = fits_as node _ node.role refl refl refl refl k
 role_fits tests version node input out (FollowsPieces from config number pieces rows gathering v m t g w) k = follows-fits node _ config m refl refl refl refl
+role_fits tests version node input out _ k = fits_as node _ node.role refl refl refl refl k
 
 pub member_as : (t u : Moment) (a b : NodeRecord) → ((c : Membership) → IsStored t c → IsStored u c) → b.name ≡ a.name → b.shard ≡ a.shard → b.state ≡ a.state → IsMemberAt t a → IsMemberAt u b
 member_as t u a b on n s e m = record { config = m.config; stored = on m.config m.stored; shard = m.shard ∙ sym s; epoch = m.epoch ∙ sym e; member = subst (λ k. StandsIn k m.config.members) (sym n) m.member }
@@ -86,29 +68,10 @@ leads-member setup node c h e = subst (λ x. StandsIn x c.members) e (among-Stan
 pub member_kept : (setup : Deployment) (t u : Moment) (tests : Tests) (version : ℕ) (node : NodeRecord) (input : Input) (out : Out NodeRecord) → Effect tests version node input out
     → ((c : Membership) → IsStored t c → IsStored u c) → ((c : Membership) → Heard input c → IsStored u c × HasMembers setup c) → (1 ≤ node.state → IsMemberAt t node) → 1 ≤ out.kept.state → IsMemberAt u out.kept
 member_kept setup old new tests version node input out (Rests i answer notices n) on known k some = member_as old new node _ on refl refl refl (k some)
-member_kept setup old new tests version node input out (Certifies payload n case e) on known k some = member_as old new node _ on refl refl refl (k some)
-member_kept setup old new tests version node input out (TakesOver txn row r u n m case e) on known k some = member_as old new node _ on refl refl refl (k some)
-member_kept setup old new tests version node input out Nudges on known k some = member_as old new node _ on refl refl refl (k some)
-member_kept setup old new tests version node input out (Moves shard want) on known k some = member_as old new node _ on refl refl refl (k some)
-member_kept setup old new tests version node input out (Lowers shard want epoch probed low e l p) on known k some = member_as old new node _ on refl refl refl (k some)
-member_kept setup old new tests version node input out (Reads name l) on known k some = member_as old new node _ on refl refl refl (k some)
-member_kept setup old new tests version node input out (Asks shard) on known k some = member_as old new node _ on refl refl refl (k some)
-member_kept setup old new tests version node input out (AnswersAgain from epoch txn shards part row l e a r) on known k some = member_as old new node _ on refl refl refl (k some)
-member_kept setup old new tests version node input out (Appends from epoch txn shards part l e a r f entry n) on known k some = member_as old new node _ on refl refl refl (k some)
-member_kept setup old new tests version node input out (Votes from shard epoch entry case part view p e l f o g) on known k some = member_as old new node _ on refl refl refl (k some)
-member_kept setup old new tests version node input out (Acknowledges from shard epoch slot txn case part view p e l f o g) on known k some = member_as old new node _ on refl refl refl (k some)
-member_kept setup old new tests version node input out (Changes from config n) on known k some = member_as old new node _ on refl refl refl (k some)
-member_kept setup old new tests version node input out (Learns from config coordinator sent stage asked y h) on known k some = member_as old new node _ on refl refl refl (k some)
-member_kept setup old new tests version node input out (Keeps from txn decision h n) on known k some = member_as old new node _ on refl refl refl (k some)
-member_kept setup old new tests version node input out (Accepts from epoch entry f e t) on known k some = member_as old new node _ on refl refl refl (k some)
-member_kept setup old new tests version node input out (Marks from epoch slot txn commit e h) on known k some = member_as old new node _ on refl refl refl (k some)
-member_kept setup old new tests version node input out (Promises from epoch l) on known k some = member_as old new node _ on refl refl refl (k some)
-member_kept setup old new tests version node input out (Chooses from told shard want epoch probed low e a l) on known k some = member_as old new node _ on refl refl refl (k some)
-member_kept setup old new tests version node input out (FindsLow from told shard want epoch probed low e a l) on known k some = member_as old new node _ on refl refl refl (k some)
 member_kept setup old new tests version node input out (Leads from config q r p l) on known k some = let c : IsStored new config × HasMembers setup config = known config (record { from = from; message = NewConfig config; is = refl; told = refl }) in record { config = config; stored = c.0; shard = q; epoch = refl; member = leads-member setup node config c.1 l }
 member_kept setup old new tests version node input out (Follows from config rows v m) on known k some = follows-member new node _ config (known config (record { from = from; message = NewState config rows; is = refl; told = refl })).0 m refl refl refl
-member_kept setup old new tests version node input out (Gathers from config number pieces rows gathering v m t g w) on known k some = member_as old new node _ on refl refl refl (k some)
 member_kept setup old new tests version node input out (FollowsPieces from config number pieces rows gathering v m t g w) on known k some = follows-member new node _ config (known config (record { from = from; message = StatePiece config number pieces rows; is = refl; told = refl })).0 m refl refl refl
+member_kept setup old new tests version node input out _ on known k some = member_as old new node _ on refl refl refl (k some)
 
 -- what the input brings may stand in a log
 pub record BringsRows (input : Input) : Type 0 where
@@ -123,29 +86,12 @@ GathersRows node = (g : Gathering) → node.gathering ≡ Some g → AreRows (ro
 -- the rows may stand in a log
 pub rows_kept : (tests : Tests) (version : ℕ) (node : NodeRecord) (input : Input) (out : Out NodeRecord) → Effect tests version node input out → BringsRows input → GathersRows node → AreRows node.rows → AreRows out.kept.rows
 rows_kept tests version node input out (Rests i answer notices n) b k x = x
-rows_kept tests version node input out (Certifies payload n case e) b k x = x
-rows_kept tests version node input out (TakesOver txn row r u n m case e) b k x = x
-rows_kept tests version node input out Nudges b k x = x
-rows_kept tests version node input out (Moves shard want) b k x = x
-rows_kept tests version node input out (Lowers shard want epoch probed low e l p) b k x = x
-rows_kept tests version node input out (Reads name l) b k x = x
-rows_kept tests version node input out (Asks shard) b k x = x
-rows_kept tests version node input out (AnswersAgain from epoch txn shards part row l e a r) b k x = x
 rows_kept tests version node input out (Appends from epoch txn shards part l e a r f entry n) b k x = appended-rows node.rows entry x (subst (λ y. row_of node.rows y ≡ None) (sym (ap (λ y. y.txn) n)) r) f (ap (λ y. y.slot) n)
-rows_kept tests version node input out (Votes from shard epoch entry case part view p e l f o g) b k x = x
-rows_kept tests version node input out (Acknowledges from shard epoch slot txn case part view p e l f o g) b k x = x
-rows_kept tests version node input out (Changes from config n) b k x = x
-rows_kept tests version node input out (Learns from config coordinator sent stage asked y h) b k x = x
-rows_kept tests version node input out (Keeps from txn decision h n) b k x = x
 rows_kept tests version node input out (Accepts from epoch entry f e t) b k x = accepted-rows node.rows entry x t (b.accept from epoch entry refl)
 rows_kept tests version node input out (Marks from epoch slot txn commit e h) b k x = same_entries-rows node.rows _ (sym (entries_of-marked node.rows slot (mark_of commit))) x
-rows_kept tests version node input out (Promises from epoch l) b k x = x
-rows_kept tests version node input out (Chooses from told shard want epoch probed low e a l) b k x = x
-rows_kept tests version node input out (FindsLow from told shard want epoch probed low e a l) b k x = x
-rows_kept tests version node input out (Leads from config q r p l) b k x = x
 rows_kept tests version node input out (Follows from config rows v m) b k x = b.state from config rows refl
-rows_kept tests version node input out (Gathers from config number pieces rows gathering v m t g w) b k x = x
 rows_kept tests version node input out (FollowsPieces from config number pieces rows gathering v m t g w) b k x = subst (λ y. AreRows (rows_of y.kept)) (sym g) (gathered-rows node.gathering config pieces (record { number = number; rows = rows }) t (b.piece from number pieces config rows refl) k)
+rows_kept tests version node input out _ b k x = x
 
 pub gathered_from-is : (epoch : ℕ) (g : Option Gathering) (kept : Gathering) → gathered_from epoch g ≡ Some kept → g ≡ Some kept
 gathered_from-is epoch None kept e = e
@@ -160,26 +106,8 @@ some-is a b e = cc e
 
 pub gathered_kept : (tests : Tests) (version : ℕ) (node : NodeRecord) (input : Input) (out : Out NodeRecord) → Effect tests version node input out → BringsRows input → GathersRows node → GathersRows out.kept
 gathered_kept tests version node input out (Rests i answer notices n) b k s is = k s is
-gathered_kept tests version node input out (Certifies payload n case e) b k s is = k s is
-gathered_kept tests version node input out (TakesOver txn row r u n m case e) b k s is = k s is
-gathered_kept tests version node input out Nudges b k s is = k s is
-gathered_kept tests version node input out (Moves shard want) b k s is = k s is
-gathered_kept tests version node input out (Lowers shard want epoch probed low e l p) b k s is = k s is
-gathered_kept tests version node input out (Reads name l) b k s is = k s is
-gathered_kept tests version node input out (Asks shard) b k s is = k s is
-gathered_kept tests version node input out (AnswersAgain from epoch txn shards part row l e a r) b k s is = k s is
-gathered_kept tests version node input out (Appends from epoch txn shards part l e a r f entry n) b k s is = k s is
-gathered_kept tests version node input out (Votes from shard epoch entry case part view p e l f o g) b k s is = k s is
-gathered_kept tests version node input out (Acknowledges from shard epoch slot txn case part view p e l f o g) b k s is = k s is
-gathered_kept tests version node input out (Changes from config n) b k s is = k s is
-gathered_kept tests version node input out (Learns from config coordinator sent stage asked y h) b k s is = k s is
-gathered_kept tests version node input out (Keeps from txn decision h n) b k s is = k s is
-gathered_kept tests version node input out (Accepts from epoch entry f e t) b k s is = k s is
-gathered_kept tests version node input out (Marks from epoch slot txn commit e h) b k s is = k s is
 gathered_kept tests version node input out (Promises from epoch l) b k s is = k s (gathered_from-is epoch node.gathering s is)
-gathered_kept tests version node input out (Chooses from told shard want epoch probed low e a l) b k s is = k s is
-gathered_kept tests version node input out (FindsLow from told shard want epoch probed low e a l) b k s is = k s is
-gathered_kept tests version node input out (Leads from config q r p l) b k s is = k s is
 gathered_kept tests version node input out (Follows from config rows v m) b k s is = k s (gathered_from-is config.epoch node.gathering s is)
 gathered_kept tests version node input out (Gathers from config number pieces rows gathering v m t g w) b k s is = subst (λ y. AreRows (rows_of y.kept)) (sym g ∙ some-is gathering s is) (gathered-rows node.gathering config pieces (record { number = number; rows = rows }) t (b.piece from number pieces config rows refl) k)
 gathered_kept tests version node input out (FollowsPieces from config number pieces rows gathering v m t g w) b k s is = absurd (cc is)
+gathered_kept tests version node input out _ b k s is = k s is

@@ -140,7 +140,6 @@ sending_by tests version node input out Nudges =
     (each-stage (Why node Nudge node) node.prober (λ name epoch. Says _ tt) (λ shard. Says _ tt) (λ shard epoch. Says _ tt) (λ config e. Says _ tt))
 sending_by tests version node input out (Moves shard want) = each-one (Why node _ _) _ (Says _ tt)
 sending_by tests version node input out (Lowers shard want epoch probed low e p q) = each-one (Why node _ _) _ (Says _ tt)
-sending_by tests version node input out (Reads name l) = λ o s. absurd s
 sending_by tests version node input out (Asks shard) = each-one (Why node _ _) _ (Says _ tt)
 sending_by tests version node input out (AnswersAgain from epoch txn shards part row leads at among found) = each-one (Why node _ _) _
     (subst (λ n. Sending node (Deliver from (Prepare epoch txn shards part)) node from (PrepareAck node.shard n row.entry)) at
@@ -156,19 +155,14 @@ sending_by tests version node input out (Changes from config newer) = ask_leader
 sending_by tests version node input out (Learns from config coordinator sent stage asked sees hears) =
     each-both (Why node _ _) sent asked (each-sees (Why node _ _) node.coordinator config coordinator sent sees (ask_leader-why node _ _ node.coordinator config))
     (each-hears (Why node _ _) node.name config _ node.prober stage asked hears (λ name epoch. Says _ tt) (Says _ tt))
-sending_by tests version node input out (Keeps from txn decision home seq) = λ o s. absurd s
 sending_by tests version node input out (Accepts from epoch entry follows at taken) = each-one (Why node _ _) _
     (subst (λ n. Sending node (Deliver from (Accept epoch entry)) (record node { rows = accepted node.rows entry }) from (AcceptAck node.shard n entry.slot entry.txn)) at
     (Holds entry.slot entry.txn follows refl (accepted-has node.rows entry)))
-sending_by tests version node input out (Marks from epoch slot txn commit l has) = λ o s. absurd s
 sending_by tests version node input out (Promises from epoch l) = each-one (Why node _ _) _ (Says _ tt)
 sending_by tests version node input out (Chooses from state shard want epoch probed low e a l) = each-one (Why node _ _) _ (Says _ tt)
-sending_by tests version node input out (FindsLow from state shard want epoch probed low e a l) = λ o s. absurd s
 sending_by tests version node input out (Leads from config shard role promised leader) =
     each-state (Why node _ _) version config node.rows (λ name. SendsWhole becomes) (λ name k s. (let r : (1 ≤ k) × (k < 1 + piece_count node.rows) = range-StandsIn 1 (piece_count node.rows) k s in SendsPiece becomes k r.0 (omega (arith, r.1))))
   where
     becomes : BecomesLeader node (Deliver from (NewConfig config)) (record node { role = Leader config; state = config.epoch })
     becomes = record { from = from; config = config; delivers = refl; shard = shard; role = role; promised = promised; leader = leader; is = refl }
-sending_by tests version node input out (Follows from config rows v may) = λ o s. absurd s
-sending_by tests version node input out (Gathers from config number pieces rows new v may takes e w) = λ o s. absurd s
-sending_by tests version node input out (FollowsPieces from config number pieces rows new v may takes e whole) = λ o s. absurd s
+sending_by tests version node input out _ = λ o s. absurd s
