@@ -17,7 +17,7 @@ use Rattle.protocol.proofs.Lists.{all-StandsIn}
 use Rattle.protocol_laws.proofs.Numbered.{AreNumbered, numbered-above, numbered-index}
 use Rattle.protocol_laws.proofs.PastKept.{EntrySays, WorldHolds, PastHolds}
 use Rattle.protocol_laws.proofs.Standing.{IsMapped, map-StandsIn, StandsIn-right}
-use Rattle.protocol_laws.proofs.TransferConfigs.{leads_member}
+use Rattle.protocol_laws.proofs.Stored.{leads_member}
 
 -- a node of a past world is of the shard that the setup says
 past_shard : (setup : Deployment) (t : Moment) (w : World) (node : NodeRecord) (shard : ℕ) → PastHolds setup t → StandsIn w (worlds t) → StandsIn node w.nodes → is_node_of setup.nodes shard node.name ≡ true → node.shard ≡ shard

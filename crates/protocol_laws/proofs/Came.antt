@@ -67,7 +67,7 @@ acting_of tests setup t event name node input out c s e f = record {
   happens = ap (λ n. happens_at t.now n out) (sym e);
 }
 
-node_by : (tests : Tests) (setup : Deployment) (t : Moment) (event : Event) (h : Happening) → Change tests setup.version t.now event h → (new : NodeRecord) → IsNode (goes_to t h.after) new
+pub node_by : (tests : Tests) (setup : Deployment) (t : Moment) (event : Event) (h : Happening) → Change tests setup.version t.now event h → (new : NodeRecord) → IsNode (goes_to t h.after) new
     → IsNode t new ⊎ IsOfActing tests setup t event h new
 node_by tests setup t event h (Passes e r a) new s = inl s
 node_by tests setup t event h (Stops name) new s = inl s

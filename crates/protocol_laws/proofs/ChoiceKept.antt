@@ -31,18 +31,17 @@ use Rattle.protocol_laws.proofs.ProbeAnswersSent.SentHow.{ByNode, ByService}
 use Rattle.protocol_laws.proofs.ChoiceOn.{chosen-on, stage-on}
 use Rattle.protocol_laws.proofs.ChoiceStage.{stage_holds}
 use Rattle.protocol_laws.proofs.ServiceSays.{ServiceSays}
+use Rattle.protocol_laws.proofs.Came.{Acting, node_by}
 
 -- each prober's stage held already, as of the moment before
 stages_held : (tests : Tests) (setup : Deployment) (t : Moment) (event : Event) (h : Happening) → InvariantHolds tests setup t → event_fits setup event ≡ true → Change tests setup.version t.now event h
     → (node : NodeRecord) → IsNode (goes_to t h.after) node → StageHolds t node.prober
-stages_held tests setup t event h v f (Passes e result a) node n = v.choice.stages node n
-stages_held tests setup t event h v f (Stops name) node n = v.choice.stages node n
-stages_held tests setup t event h v f (Acts e name old input out k o there named g x) node n = elim (put_node-back out.kept t.now.nodes node n) [
-  | inl q ↦ subst (λ m. StageHolds t m.prober) (sym q)
-      (stage_holds setup t tests setup.version old input out x v.configurations v.answers there (λ from m i. subst (λ r. WasSent t from r m) (sym named) (delivered setup t name e input k f from m i)) (v.choice.stages old there))
-  | inr q ↦ v.choice.stages node q.0
+stages_held tests setup t event h v f change node n = elim (node_by tests setup t event h change node n) [
+  | inl k ↦ v.choice.stages node k
+  | inr o ↦ (let a : Acting tests setup t event h = o.acting in
+      subst (λ m. StageHolds t m.prober) (sym o.is)
+      (stage_holds setup t tests setup.version a.node a.input a.out a.effect v.configurations v.answers a.is (λ from m i. delivered setup t a.node.name event a.input a.comes f from m i) (v.choice.stages a.node a.is)))
 ]
-stages_held tests setup t event h v f (AtService number from message sent out e o s x) node n = v.choice.stages node n
 
 -- each configuration that is stored was stored before, or proposed
 stored_how : (tests : Tests) (setup : Deployment) (t : Moment) (event : Event) (h : Happening) → Change tests setup.version t.now event h

@@ -50,23 +50,14 @@ is_plain (Refused kind why mark) = true
 is_plain (StatePiece config piece pieces rows) = false
 
 pub plain-tells : (m : Message) → is_plain m ≡ true → told_config m ≡ None
-plain-tells (Prepare epoch txn shards payload) h = refl
-plain-tells (PrepareAck shard epoch entry) h = refl
-plain-tells (Accept epoch entry) h = refl
-plain-tells (AcceptAck shard epoch slot txn) h = refl
-plain-tells (DecisionFor epoch slot txn commit) h = refl
-plain-tells (Probe epoch) h = refl
 plain-tells (ProbeAck epoch state) h = absurd (cc h)
 plain-tells (NewConfig config) h = absurd (cc h)
 plain-tells (NewState config rows) h = absurd (cc h)
 plain-tells (ConfigChange config) h = absurd (cc h)
-plain-tells (Last shard) h = refl
-plain-tells (At shard epoch) h = refl
 plain-tells (Cas config) h = absurd (cc h)
 plain-tells (Stored config) h = absurd (cc h)
-plain-tells (OutcomeOf txn decision) h = refl
-plain-tells (Refused kind why mark) h = refl
 plain-tells (StatePiece config piece pieces rows) h = absurd (cc h)
+plain-tells _ h = refl
 
 -- What a node says with an input, after which it is `kept`: something plain; its state epoch, to a probe that it promises; a configuration
 -- that the input told; or a configuration that it proposes and keeps.

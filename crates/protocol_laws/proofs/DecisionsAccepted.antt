@@ -20,12 +20,12 @@ use Rattle.protocol.specs.Invariant.Time.{Moment, StandsIn, IsStored}
 use Rattle.protocol.proofs.Lists.{all-StandsIn, among-StandsIn, StandsIn-append}
 use Rattle.protocol_laws.specs.Effect.{OpenPart}
 use Rattle.protocol_laws.proofs.Standing.{StandsIn-filter}
-use Rattle.protocol_laws.proofs.TransactionsLists.{lookup-StandsIn}
 use Rattle.protocol_laws.proofs.Stored.{one_config}
-use Rattle.protocol_laws.proofs.TransactionsPlaces.{view_is, IsView}
+use Rattle.protocol_laws.proofs.ViewsStored.{view_is, IsView}
 use Rattle.protocol_laws.proofs.CaseParts.{part_is, IsPartOf}
 use Rattle.protocol_laws.proofs.EntriesCases.{with_part-holds, voted-holds, acknowledged-holds}
 use Rattle.protocol_laws.proofs.TransactionsActing.{IsActing}
+use Rattle.protocol_laws.proofs.ByTransaction.{lookup-StandsIn}
 
 -- whoever acknowledged a listed entry held that entry; where all followers did, it is accepted
 all_held : (tests : Tests) (setup : Deployment) (t : Moment) (txn : TxId) (v : Membership) (entry : Preparation) (acks : List ℕ) → InvariantHolds tests setup t → IsStored t v → Listed t v entry

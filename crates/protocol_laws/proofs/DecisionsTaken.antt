@@ -25,13 +25,13 @@ use Rattle.protocol_laws.specs.Effect.GoesOn.{Waiting, Decides}
 use Rattle.protocol_laws.proofs.Lasting.{accepted-on}
 use Rattle.protocol_laws.proofs.DecisionsAccepted.{IsAcceptedPart, complete_part}
 use Rattle.protocol_laws.proofs.Standing.{IsMapped, map-StandsIn, IsPiece, flat_map-StandsIn}
-use Rattle.protocol_laws.proofs.TransactionsPlaces.{view_is, IsView}
-use Rattle.protocol_laws.proofs.TransferConfigs.{member_shard}
+use Rattle.protocol_laws.proofs.ViewsStored.{view_is, IsView}
 use Rattle.protocol.specs.Invariant.Entries.{CaseHolds}
 use Rattle.protocol_laws.proofs.TransactionsActing.{IsActing}
 use Rattle.protocol_laws.proofs.Sends.{Each, each-decision, each-goes_on}
 use Rattle.tcs_terms.specs.Preparations.{Preparation}
 use Rattle.tcs_terms.specs.Places.{Membership}
+use Rattle.protocol_laws.proofs.Stored.{member_shard}
 
 -- what a message to a node tells of decisions agrees with decisions that were taken
 abbrev pub MessageAgrees : Moment → ℕ → Message → Type 0

@@ -23,16 +23,15 @@ use Rattle.protocol.proofs.Lists.{find-StandsIn}
 use Rattle.protocol_laws.specs.Turn.{Turn, Onward, GrewFrom}
 use Rattle.protocol_laws.proofs.ConfigurationsInputs.{delivered}
 use Rattle.protocol_laws.proofs.Lasting.{is_in-now, held-on, has_initial-on, listed-on}
-use Rattle.protocol_laws.proofs.TransactionsLists.{lookup-StandsIn}
 use Rattle.protocol_laws.proofs.Standing.{StandsIn-left, StandsIn-right, filter-StandsIn}
-use Rattle.protocol_laws.proofs.Stored.{one_config, stored-some}
-use Rattle.protocol_laws.proofs.TransferConfigs.{member_shard, follower_member}
+use Rattle.protocol_laws.proofs.Stored.{one_config, stored-some, member_shard, follower_member}
 use Rattle.protocol_laws.proofs.Came.{Acting, effect_name}
 use Rattle.protocol_laws.proofs.TransferHeld.{leads_it}
 use Rattle.protocol_laws.proofs.TransferSending.{Sending, VotesNow, HasEntry}
 use Rattle.protocol_laws.proofs.TransferSending.Sending.{Says, Answers, AsksVoted, AsksAgain, Holds}
-use Rattle.protocol_laws.proofs.TransferSent.{sent_how, SentNow}
-use Rattle.protocol_laws.proofs.TransactionsPlaces.{IsView, view_is}
+use Rattle.protocol_laws.proofs.TransferSent.{SentNow, sent_why}
+use Rattle.protocol_laws.proofs.ViewsStored.{IsView, view_is}
+use Rattle.protocol_laws.proofs.ByTransaction.{lookup-StandsIn}
 
 listed_at-on : (t u : Moment) (shard epoch : ℕ) (x : Preparation) → Onward t u → ListedAt t shard epoch x → ListedAt u shard epoch x
 listed_at-on t u shard epoch x onward l = record { config = l.config; stored = onward.stored l.config l.stored; of_shard = l.of_shard; of_epoch = l.of_epoch; listed = listed-on t u l.config x onward l.listed }
@@ -122,7 +121,7 @@ module _ (tests : Tests) (setup : Deployment) (t : Moment) (event : Event) (h : 
       }
 
   pub answered_then : (from dest shard epoch : ℕ) (x : Preparation) → WasSent u from dest (PrepareAck shard epoch x) → ListedAt u shard epoch x
-  answered_then from dest shard epoch x s = elim (sent_how tests setup t event h turn from dest (PrepareAck shard epoch x) (λ k. k) s) [
+  answered_then from dest shard epoch x s = elim (sent_why tests setup t event h turn from dest (PrepareAck shard epoch x) (λ k. k) s) [
     | inl k ↦ listed_at-on t u shard epoch x onward (turn.before.entries.answered from dest shard epoch x k)
     | inr k ↦ now_listed k.acting shard epoch x (answers_by k.acting.node k.acting.input k.acting.out.kept dest shard epoch x k.why)
   ]
@@ -154,7 +153,7 @@ module _ (tests : Tests) (setup : Deployment) (t : Moment) (event : Event) (h : 
           (seen.stored, subst (λ (y : Preparation). Listed t view y) is (voted_part t v.answered.txn a.node.coordinator.views v.part view kept (c.parts v.part found.0) sees e).0)
 
   pub accepting_then : (from epoch : ℕ) (node : NodeRecord) (x : Preparation) → IsNode u node → WasSent u from node.name (Accept epoch x) → ListedAt u node.shard epoch x
-  accepting_then from epoch node x n s = elim (sent_how tests setup t event h turn from node.name (Accept epoch x) (λ k. k) s) [
+  accepting_then from epoch node x n s = elim (sent_why tests setup t event h turn from node.name (Accept epoch x) (λ k. k) s) [
     | inl k ↦ before k
     | inr k ↦ now k (asks_by k.acting.node k.acting.input k.acting.out.kept node.name epoch x k.why)
   ]
@@ -176,7 +175,7 @@ module _ (tests : Tests) (setup : Deployment) (t : Moment) (event : Event) (h : 
           }
 
   pub acknowledged_then : (from dest shard epoch slot : ℕ) (txn : TxId) → WasSent u from dest (AcceptAck shard epoch slot txn) → HeldAt u epoch from slot txn
-  acknowledged_then from dest shard epoch slot txn s = elim (sent_how tests setup t event h turn from dest (AcceptAck shard epoch slot txn) (λ k. k) s) [
+  acknowledged_then from dest shard epoch slot txn s = elim (sent_why tests setup t event h turn from dest (AcceptAck shard epoch slot txn) (λ k. k) s) [
     | inl k ↦ held_at-on t u epoch from slot txn onward (turn.before.entries.acknowledged from dest shard epoch slot txn k)
     | inr k ↦ now k (holds_by k.acting.node k.acting.input k.acting.out.kept dest shard epoch slot txn k.why)
   ]

@@ -20,10 +20,9 @@ use Rattle.protocol_laws.specs.Effect.{GoesOn}
 use Rattle.protocol_laws.specs.Effect.GoesOn.{Waiting, Decides}
 use Rattle.protocol_laws.specs.Turn.{Onward}
 use Rattle.protocol_laws.proofs.Lasting.{listed-on}
-use Rattle.protocol_laws.proofs.TransactionsLists.{set_value-StandsIn, remove_entry-StandsIn}
 use Rattle.protocol_laws.proofs.Standing.{map-StandsIn, IsMapped}
 use Rattle.protocol_laws.proofs.EntriesAnswered.{held_at-on}
-use Rattle.protocol_laws.proofs.EntriesKeyed.{keys, set-keys, remove-differ, added-differ}
+use Rattle.protocol_laws.proofs.ByTransaction.{keys, set-keys, remove-differ, added-differ, set_value-StandsIn, remove_entry-StandsIn}
 use Rattle.protocol_laws.proofs.CaseParts.{put-shards, put-StandsIn}
 
 -- all cases of a coordinator hold, and there is one of a transaction

@@ -29,8 +29,7 @@ use Rattle.protocol_laws.specs.Turn.{Turn, Onward}
 use Rattle.protocol_laws.proofs.ConfigurationsInputs.{delivered}
 use Rattle.protocol_laws.proofs.EntriesAnswered.{asked_listed}
 use Rattle.protocol_laws.proofs.EntriesCases.{CasesHold, cases-on, new_case-holds, begins-holds, goes_on-holds, with_part-holds, voted-holds, acknowledged-holds, change_view-holds}
-use Rattle.protocol_laws.proofs.EntriesKeyed.{keys, lookup-none-StandsIn}
-use Rattle.protocol_laws.proofs.TransactionsLists.{lookup-StandsIn}
+use Rattle.protocol_laws.proofs.ByTransaction.{keys, lookup-none-StandsIn, lookup-StandsIn}
 use Rattle.protocol_laws.proofs.Standing.{map-StandsIn, IsMapped}
 use Rattle.protocol_laws.proofs.Came.{node_back, Acting}
 use Rattle.protocol_laws.proofs.TransferSending.{VotesNow}

@@ -56,7 +56,7 @@ stood_below tests setup t earlier txn decision c low high new d l h below payloa
     (record { mark = m.from.mark; stands = mark_stands-front a.before.history earlier m.from.entry.txn m.from.mark front (a.marks m.from m.there); passes = passes })
 
 -- an entry that is accepted with the vote to commit, and its payload
-pub record IsReady (t : Moment) (txn : TxId) (shard : ℕ) (entry : Preparation) (payload : Accesses) : Type 0 where
+pub record IsVotedToCommit (t : Moment) (txn : TxId) (shard : ℕ) (entry : Preparation) (payload : Accesses) : Type 0 where
   pub accepted : IsAcceptedIn t txn shard entry
   pub vote : entry.vote ≡ votes.Commit
   pub has : entry.payload ≡ Some payload
@@ -92,7 +92,7 @@ above_passes tests setup t earlier txn x old new lawful d first is vote has s =
         absurd (cc same)
 
 pub legal_in_shard : (tests : Tests) (setup : Deployment) (t : Moment) (earlier : List Note) (txn other : TxId) (shard : ℕ) (x y : Preparation) (old new : Accesses) → IsLawful tests
-    → DecidesNow tests setup t earlier txn Commit → (StandsIn (Decide txn Commit) earlier → ⊥) → StandsIn (Decide other Commit) earlier → IsReady t other shard x old → IsReady t txn shard y new
+    → DecidesNow tests setup t earlier txn Commit → (StandsIn (Decide txn Commit) earlier → ⊥) → StandsIn (Decide other Commit) earlier → IsVotedToCommit t other shard x old → IsVotedToCommit t txn shard y new
     → tests.committed_ok old new ≡ true
 legal_in_shard tests setup t earlier txn other shard x y old new lawful d first committed a b =
     go (common_list tests setup t a.accepted.config b.accepted.config x y d.holds a.accepted.accepted b.accepted.accepted (a.accepted.of_shard ∙ sym b.accepted.of_shard))

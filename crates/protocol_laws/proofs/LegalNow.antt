@@ -16,7 +16,7 @@ use Rattle.protocol.specs.Invariant.Time.{Moment, StandsIn}
 use Rattle.protocol.proofs.FirstRoles.{and-left}
 use Rattle.protocol_laws.proofs.DecidedEntries.{CommittedEntry, committed-entry}
 use Rattle.protocol_laws.proofs.DecidesNow.{DecidesNow, earlier-noted, now-noted}
-use Rattle.protocol_laws.proofs.LegalInShard.{IsReady, legal_in_shard}
+use Rattle.protocol_laws.proofs.LegalInShard.{legal_in_shard, IsVotedToCommit}
 use Rattle.protocol_laws.proofs.PartsOf.{part-shard}
 use Rattle.protocol_laws.proofs.Standing.{all-from, range-StandsIn}
 

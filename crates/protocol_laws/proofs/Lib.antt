@@ -58,15 +58,12 @@ pub mod ChoiceOn
 pub mod ChoiceStage
 pub mod ChoiceKept
 pub mod Came
-pub mod TransferConfigs
 pub mod Ascending
 pub mod TransferPieces
-pub mod TransactionsLists
 pub mod TransactionsLast
-pub mod TransactionsPlaces
+pub mod ViewsStored
 pub mod TransactionsNotes
 pub mod TransactionsRows
-pub mod TransactionsReceived
 pub mod TransactionsRowsKept
 pub mod TransactionsBegun
 pub mod TransactionsActing
@@ -103,7 +100,7 @@ pub mod EntriesRows
 pub mod EntriesListed
 pub mod EntriesAppended
 pub mod EntriesAnswered
-pub mod EntriesKeyed
+pub mod ByTransaction
 pub mod EntriesCases
 pub mod EntriesCasesKept
 pub mod EntriesListsKept

@@ -12,8 +12,7 @@ use Rattle.protocol.specs.Invariant.Logs.{Reached, Held, HasInitial, Listed, Acc
 use Rattle.protocol.specs.Invariant.Time.{Moment, StandsIn, IsStored}
 use Rattle.protocol.specs.Invariant.Transfer.{IsHandedOn}
 use Rattle.protocol.proofs.Lists.{among-StandsIn}
-use Rattle.protocol_laws.proofs.Stored.{one_config}
-use Rattle.protocol_laws.proofs.TransferConfigs.{leads_member}
+use Rattle.protocol_laws.proofs.Stored.{one_config, leads_member}
 
 -- who held something in an epoch reached it
 held-reached : (t : Moment) (epoch name : ℕ) (x : Preparation) → Held t epoch name x → Reached t epoch name

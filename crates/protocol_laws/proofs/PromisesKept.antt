@@ -30,6 +30,7 @@ use Rattle.protocol_laws.proofs.ConfigurationsInputs.{delivered}
 use Rattle.protocol_laws.proofs.ConfigurationsKept.{heard_is_stored}
 use Rattle.protocol_laws.proofs.PromisesNode.{BringsRows, GathersRows, role_fits, member_as, member_kept, rows_kept, gathered_kept}
 use Rattle.protocol_laws.proofs.PromisesSent.{past-rows, state-rows, sent_piece-rows, accepting-fits}
+use Rattle.protocol_laws.proofs.Came.{Acting, node_by}
 
 -- what is said of one node, apart from its past
 record NodeKeeps (u : Moment) (node : NodeRecord) : Type 0 where
@@ -70,13 +71,11 @@ new_keeps tests setup t u event node input out v f on n k e =
 
 change_keeps : (tests : Tests) (setup : Deployment) (t : Moment) (event : Event) (h : Happening) → InvariantHolds tests setup t → event_fits setup event ≡ true → ((c : Membership) → IsStored t c → IsStored (goes_to t h.after) c) → Change tests setup.version t.now event h
     → (node : NodeRecord) → IsNode (goes_to t h.after) node → NodeKeeps (goes_to t h.after) node
-change_keeps tests setup t event h v f on (Passes e result a) node n = old_keeps t _ v.promises on node n
-change_keeps tests setup t event h v f on (Stops name) node n = old_keeps t _ v.promises on node n
-change_keeps tests setup t event h v f on (Acts e name old input out k o there named g x) node n = elim (put_node-back out.kept t.now.nodes node n) [
-  | inl q ↦ subst (λ m. NodeKeeps (goes_to t (happens_at t.now name out).after) m) (sym q) (new_keeps tests setup t _ e old input out v f on there (subst (λ m. Comes t.now m e input) (sym named) k) x)
-  | inr q ↦ old_keeps t _ v.promises on node q.0
+change_keeps tests setup t event h v f on change node n = elim (node_by tests setup t event h change node n) [
+  | inl k ↦ old_keeps t _ v.promises on node k
+  | inr o ↦ (let a : Acting tests setup t event h = o.acting in
+      subst (λ m. NodeKeeps (goes_to t h.after) m) (sym o.is) (new_keeps tests setup t _ event a.node a.input a.out v f on a.is a.comes a.effect))
 ]
-change_keeps tests setup t event h v f on (AtService number from message sent out e o s x) node n = old_keeps t _ v.promises on node n
 
 -- what a node reached is no later than its state epoch
 reached_kept : (setup : Deployment) (t u : Moment) → ConfigurationsHold setup u → Onward t u → PromisesHold t → (node : NodeRecord) (epoch : ℕ) → IsNode u node → Reached u epoch node.name → epoch ≤ node.state

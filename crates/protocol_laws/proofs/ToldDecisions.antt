@@ -102,23 +102,8 @@ served-tells ns kept _ (TellsChange c k) = tt
 served-tells ns kept _ (Refuses kind why mark) = tt
 
 tells-more : (ns ms : List Note) (m : Message) → ((n : Note) → StandsIn n ns → StandsIn n ms) → TellsNoted ns m → TellsNoted ms m
-tells-more ns ms (Prepare epoch txn shards part) h t = tt
-tells-more ns ms (PrepareAck shard epoch entry) h t = tt
-tells-more ns ms (Accept epoch entry) h t = tt
-tells-more ns ms (AcceptAck shard epoch slot txn) h t = tt
 tells-more ns ms (DecisionFor epoch slot txn commit) h t = (t.0, h (notes.Decide txn t.0) t.1, t.2)
-tells-more ns ms (Probe epoch) h t = tt
-tells-more ns ms (ProbeAck epoch state) h t = tt
-tells-more ns ms (NewConfig config) h t = tt
-tells-more ns ms (NewState config rows) h t = tt
-tells-more ns ms (ConfigChange config) h t = tt
-tells-more ns ms (Last shard) h t = tt
-tells-more ns ms (At shard epoch) h t = tt
-tells-more ns ms (Cas config) h t = tt
-tells-more ns ms (Stored config) h t = tt
-tells-more ns ms (OutcomeOf txn decision) h t = tt
-tells-more ns ms (Refused kind why mark) h t = tt
-tells-more ns ms (StatePiece config number pieces rows) h t = tt
+tells-more ns ms _ h t = tt
 
 -- every message of a world, where it is a DECISION, tells one of its history
 abbrev pub MessagesTell : World → Type 0

@@ -29,11 +29,11 @@ use Rattle.protocol_laws.specs.Effect.GoesOn.{Waiting, Decides}
 use Rattle.protocol_laws.specs.Effect.Effect.{Certifies, TakesOver, Votes, Acknowledges, Changes, Learns}
 use Rattle.protocol_laws.proofs.TransactionsLast.{entry_fits-on, case_fits-on, is_begun-on}
 use Rattle.protocol_laws.proofs.Standing.{IsMapped, map-StandsIn}
-use Rattle.protocol_laws.proofs.TransactionsLists.{lookup-StandsIn, set_value-StandsIn, remove_entry-StandsIn}
-use Rattle.protocol_laws.proofs.TransactionsPlaces.{views_length}
+use Rattle.protocol_laws.proofs.ViewsStored.{views_length}
 use Rattle.protocol_laws.proofs.SameTxn.{same_txn-eq}
 use Rattle.protocol_laws.proofs.CaseParts.{put-StandsIn, IsPartOf, part_is}
 use Rattle.protocol_laws.proofs.TransactionsActing.{IsActing}
+use Rattle.protocol_laws.proofs.ByTransaction.{lookup-StandsIn, set_value-StandsIn, remove_entry-StandsIn}
 
 -- all cases of a coordinator fit
 abbrev pub CasesFit : ℕ → Moment → Coordinator → Type 0

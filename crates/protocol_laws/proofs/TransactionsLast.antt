@@ -106,18 +106,10 @@ message_fits-on n t u s (PrepareAck shard epoch entry) g f = entry_fits-on n t u
 message_fits-on n t u s (Accept epoch entry) g f = entry_fits-on n t u s entry g f
 message_fits-on n t u s (AcceptAck shard epoch slot txn) g f = has_begun-on t u txn g f
 message_fits-on n t u s (DecisionFor epoch slot txn commit) g f = has_begun-on t u txn g f
-message_fits-on n t u s (Probe epoch) g f = tt
-message_fits-on n t u s (ProbeAck epoch state) g f = tt
-message_fits-on n t u s (NewConfig config) g f = tt
 message_fits-on n t u s (NewState config rows) g f = λ r k. entry_fits-on n t u config.shard r.entry g (f r k)
-message_fits-on n t u s (ConfigChange config) g f = tt
-message_fits-on n t u s (Last shard) g f = tt
-message_fits-on n t u s (At shard epoch) g f = tt
-message_fits-on n t u s (Cas config) g f = tt
-message_fits-on n t u s (Stored config) g f = tt
 message_fits-on n t u s (OutcomeOf txn decision) g f = (has_begun-on t u txn g f.0, decision_names-on t u decision g f.1)
-message_fits-on n t u s (Refused kind why mark) g f = tt
 message_fits-on n t u s (StatePiece config number pieces rows) g f = λ r k. entry_fits-on n t u config.shard r.entry g (f r k)
+message_fits-on n t u s _ g f = tt
 
 whole-on : (t u : Moment) (txn : TxId) (payload : Accesses) (kept : Option Accesses) → Onward t u → (kept ≡ Some payload) ⊎ ((kept ≡ None) × WasTaken t txn) → (kept ≡ Some payload) ⊎ ((kept ≡ None) × WasTaken u txn)
 whole-on t u txn payload kept o (inl e) = inl e

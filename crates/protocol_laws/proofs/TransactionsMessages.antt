@@ -37,7 +37,7 @@ use Rattle.protocol_laws.specs.Effect.Effect.{Rests, Certifies, TakesOver, Nudge
 use Rattle.protocol_laws.proofs.TransactionsCases.{acting_cases, old_cases_fit, voted_now, voted_case, acknowledged_case}
 use Rattle.protocol_laws.proofs.TransactionsLast.{has_begun-on}
 use Rattle.protocol_laws.proofs.Standing.{IsMapped, map-StandsIn, StandsIn-right, IsPiece, flat_map-StandsIn, take-StandsIn, drop-StandsIn}
-use Rattle.protocol_laws.proofs.TransactionsPlaces.{view_is, views_length, IsView}
+use Rattle.protocol_laws.proofs.ViewsStored.{view_is, views_length, IsView}
 use Rattle.protocol_laws.proofs.TransactionsSends.{AreViews, case_sends, resends, leader_asked, decision_told, Fits, accept_fits}
 use Rattle.protocol_laws.proofs.TransactionsActing.{IsActing}
 use Rattle.protocol_laws.proofs.TransferPieces.{piece_row}

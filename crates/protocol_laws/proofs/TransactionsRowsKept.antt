@@ -9,22 +9,28 @@ use Rattle.tcs_terms.specs.declared.votes.Vote.TheVariants as votes
 use Rattle.tcs_terms.specs.Payloads.{Accesses}
 use Rattle.tcs_terms.specs.Places.{Membership}
 use Rattle.tcs_terms.specs.Preparations.{Preparation, is_lost}
-use Rattle.tcs_terms.specs.Setups.{Deployment}
+use Rattle.tcs_terms.specs.Setups.{Deployment, has_node}
 use Rattle.tcs_laws.specs.Certification.{Tests}
 use Rattle.tcs_laws.specs.Votes.{clashes, vote_by, vote_on}
 use Rattle.protocol.specs.Log.{row_of, new_entry, undecided, vote_on_part}
 use Rattle.protocol.specs.ShardRules.{is_leader}
-use Rattle.protocol.specs.World.{Happening}
+use Rattle.protocol.specs.World.{Happening, World, Sent}
 use Rattle.protocol.specs.Invariant.Time.{Moment, goes_to, StandsIn, WasSent}
-use Rattle.protocol.specs.Invariant.Transactions.{HasBegun, VoteNames, EntryFits, PrepareFits}
+use Rattle.protocol.specs.Invariant.Transactions.{HasBegun, VoteNames, EntryFits, PrepareFits, MessageFits}
 use Rattle.protocol.proofs.Lists.{find-StandsIn}
 use Rattle.protocol_laws.specs.Turn.{Turn}
 use Rattle.protocol_laws.proofs.TransactionsLast.{Goes, is_begun-on, is_part-on, entry_fits-on, has_begun-on}
 use Rattle.protocol_laws.proofs.TransactionsNotes.{goes_of}
-use Rattle.protocol_laws.proofs.TransactionsReceived.{received_fits}
 use Rattle.protocol_laws.proofs.TransactionsRows.{RowCame, row_came}
 use Rattle.protocol_laws.proofs.TransactionsRows.RowCame.{WasThere, WasMarked, WasAppended, WasAccepted, WasWhole, WasInPiece, WasKept}
 use Rattle.protocol_laws.proofs.Came.{effect_name, Acting}
+use Rattle.tcs_terms.specs.declared.inputs.Input.TheVariants as inputs
+use Rattle.tcs_terms.specs.declared.messages.Message.{Message}
+use Rattle.tcs_terms.specs.Events.{event_fits, input_fits}
+use Rattle.protocol.proofs.FirstRoles.{and-right}
+use Rattle.protocol_laws.specs.Change.{Comes}
+use Rattle.protocol_laws.specs.Change.Comes.{ByCall, ByMessage}
+use Rattle.protocol_laws.proofs.ConfigurationsInputs.{delivered}
 
 not_lost : (row : Option Row) → is_lost (vote_by row) ≡ false
 not_lost None = refl
@@ -90,6 +96,11 @@ new_entry_fits tests setup t event h turn a txn shards part lead none rows still
           let e : EntryFits setup.shards t a.node.shard r.entry = turn.before.transactions.rows a.node r a.is s in
           has_begun-on t (goes_to t h.after) r.entry.txn g (e.payload, e.begun));
     }
+
+-- what a message that a node takes says of transactions was so
+received_fits : (tests : Tests) (setup : Deployment) (t : Moment) (event : Event) (h : Happening) (from : ℕ) (m : Message) → Turn tests setup t event h → (a : Acting tests setup t event h)
+    → a.input ≡ inputs.Deliver from m → MessageFits setup.shards t a.node.shard m
+received_fits tests setup t event h from m turn a e = turn.before.transactions.messages from a.node m a.is (delivered setup t a.node.name event a.input a.comes turn.fits from m e)
 
 -- each row of a node that acted fits
 pub acted_rows_fit : (tests : Tests) (setup : Deployment) (t : Moment) (event : Event) (h : Happening) → Turn tests setup t event h → (a : Acting tests setup t event h) → (r : Row) → StandsIn r a.out.kept.rows

@@ -23,9 +23,9 @@ use Rattle.protocol.specs.Invariant.Transactions.{HasBegun, WasTaken, IsPart, Vo
 use Rattle.protocol.proofs.Lists.{find-StandsIn, StandsIn-append}
 use Rattle.protocol_laws.proofs.TransactionsCases.{CasesFit}
 use Rattle.protocol_laws.proofs.Standing.{IsMapped, map-StandsIn, filter-StandsIn, IsPiece, flat_map-StandsIn}
-use Rattle.protocol_laws.proofs.TransactionsPlaces.{IsView}
-use Rattle.protocol_laws.proofs.TransferConfigs.{member_shard, leads_member, follower_member}
+use Rattle.protocol_laws.proofs.ViewsStored.{IsView}
 use Rattle.protocol_laws.proofs.Sends.{Each, each-case, each-resend, each-ask_leader, each-decision}
+use Rattle.protocol_laws.proofs.Stored.{member_shard, leads_member, follower_member}
 
 -- a message that is sent says what is so, to whichever node it goes
 abbrev pub Fits : ℕ → Moment → Outgoing → Type 0

@@ -17,8 +17,7 @@ use Rattle.protocol.specs.Records.Role.{Leader}
 use Rattle.protocol.specs.World.{Happening}
 use Rattle.protocol_laws.specs.Turn.{Turn, Onward}
 use Rattle.protocol_laws.proofs.Lasting.{one_node, is_in-now, no_more-on, no_more-held, HoldsNoMoreThen, held-back, HoldsNow}
-use Rattle.protocol_laws.proofs.Stored.{one_config, stored-some}
-use Rattle.protocol_laws.proofs.TransferConfigs.{next_above}
+use Rattle.protocol_laws.proofs.Stored.{one_config, stored-some, next_above}
 use Rattle.protocol_laws.proofs.Came.{config_back}
 use Rattle.protocol_laws.proofs.TransferEnters.{Leading}
 use Rattle.protocol_laws.proofs.TransferInitial.{initial_back}

@@ -30,8 +30,7 @@ use Rattle.protocol_laws.proofs.EntriesKept.{entries_of-marked}
 use Rattle.protocol_laws.proofs.Lasting.{HoldsNow, held-back, is_in-now}
 use Rattle.protocol_laws.proofs.PromisesOrder.{filtered-StandsIn}
 use Rattle.protocol_laws.proofs.Standing.{StandsIn-left, StandsIn-right}
-use Rattle.protocol_laws.proofs.Stored.{one_config, stored-some}
-use Rattle.protocol_laws.proofs.TransferConfigs.{member_shard}
+use Rattle.protocol_laws.proofs.Stored.{one_config, stored-some, member_shard}
 use Rattle.protocol_laws.proofs.Came.{node_back, IsOfActing, effect_name, effect_shard}
 use Rattle.protocol_laws.proofs.TransferEnters.{enters, EntersAs}
 use Rattle.protocol_laws.proofs.TransferReached.{Enters, entered}

@@ -15,8 +15,7 @@ use Rattle.protocol.specs.World.{World, Happening}
 use Rattle.protocol_laws.specs.Turn.{Turn, Onward}
 use Rattle.protocol_laws.proofs.Lasting.{one_node}
 use Rattle.protocol_laws.proofs.Standing.{StandsIn-right, filter-StandsIn, last_or-StandsIn}
-use Rattle.protocol_laws.proofs.Stored.{stored-some}
-use Rattle.protocol_laws.proofs.TransferConfigs.{leads_member}
+use Rattle.protocol_laws.proofs.Stored.{stored-some, leads_member}
 use Rattle.protocol_laws.proofs.Came.{node_back, config_back, IsNext, IsOfActing, effect_name}
 use Rattle.protocol_laws.proofs.TransferEnters.{enters, EntersAs, LeadsAs, Leading, Following}
 use Rattle.protocol_laws.proofs.TransferReached.{stored_then}

@@ -18,8 +18,7 @@ use Rattle.protocol.specs.World.{Happening}
 use Rattle.protocol_laws.specs.Turn.{Turn, Onward}
 use Rattle.protocol_laws.proofs.Lasting.{one_node, is_in-now, reached-on, held-on, has_initial-on, listed-on}
 use Rattle.protocol_laws.proofs.OnwardOf.{onward_of}
-use Rattle.protocol_laws.proofs.Stored.{stored-some}
-use Rattle.protocol_laws.proofs.TransferConfigs.{leads_member}
+use Rattle.protocol_laws.proofs.Stored.{stored-some, leads_member}
 use Rattle.protocol_laws.proofs.TransferEnters.{LeadsAs, Leading, Following}
 use Rattle.protocol_laws.proofs.TransferGathering.{kept_then, in_order_then}
 use Rattle.protocol_laws.proofs.TransferHandedOn.{handed_on_then}

@@ -15,8 +15,7 @@ use Rattle.protocol.proofs.Lists.{all-StandsIn}
 use Rattle.protocol_laws.specs.Turn.{Turn, Onward, GrewTo}
 use Rattle.protocol_laws.proofs.Lasting.{IsIn, reached-back, is_in-now}
 use Rattle.protocol_laws.proofs.Numbered.{AreNumbered}
-use Rattle.protocol_laws.proofs.Stored.{one_config}
-use Rattle.protocol_laws.proofs.TransferConfigs.{member_shard, next_above}
+use Rattle.protocol_laws.proofs.Stored.{one_config, next_above, member_shard}
 use Rattle.protocol_laws.proofs.Came.{node_back, config_back, IsNext, IsOfActing, effect_name}
 use Rattle.protocol_laws.proofs.TransferEnters.{enters, EntersAs, LeadsAs, Following}
 

@@ -41,9 +41,9 @@ pub record SentNow (tests : Tests) (setup : Deployment) (t : Moment) (event : Ev
   pub why : Sending acting.node acting.input acting.out.kept dest m
 
 -- a message that speaks of entries was sent before, or a node sent it for one of the reasons
-pub sent_how : (tests : Tests) (setup : Deployment) (t : Moment) (event : Event) (h : Happening) → Turn tests setup t event h → (from dest : ℕ) (m : Message) → (SaysNothing m → ⊥) → WasSent (goes_to t h.after) from dest m
+pub sent_why : (tests : Tests) (setup : Deployment) (t : Moment) (event : Event) (h : Happening) → Turn tests setup t event h → (from dest : ℕ) (m : Message) → (SaysNothing m → ⊥) → WasSent (goes_to t h.after) from dest m
     → WasSent t from dest m ⊎ SentNow tests setup t event h from dest m
-sent_how tests setup t event h turn from dest m speaks s = elim (message_back tests setup t event h turn from dest m s) [
+sent_why tests setup t event h turn from dest m speaks s = elim (message_back tests setup t event h turn from dest m s) [
   | inl k ↦ inl k
   | inr (inl k) ↦ inr (record { acting = k.acting; sender = k.sender; why = sending_by tests setup.version k.acting.node k.acting.input k.acting.out k.acting.effect (to dest m) k.among })
   | inr (inr k) ↦ absurd (speaks (served-says h.after.configs m k))
@@ -84,7 +84,7 @@ module _ (tests : Tests) (setup : Deployment) (t : Moment) (event : Event) (h : 
 
   -- rows that are sent whole are the initial entries
   pub whole_then : (from dest : ℕ) (c : Membership) (rows : List Row) → WasSent (goes_to t h.after) from dest (NewState c rows) → Initial (goes_to t h.after) c (entries_of rows)
-  whole_then from dest c rows s = elim (sent_how tests setup t event h turn from dest (NewState c rows) (λ x. x) s) [
+  whole_then from dest c rows s = elim (sent_why tests setup t event h turn from dest (NewState c rows) (λ x. x) s) [
     | inl k ↦ initial-on t (goes_to t h.after) c (entries_of rows) onward (turn.before.transfer.whole from dest c rows k)
     | inr k ↦ (let w : WholeBy k.acting.node k.acting.input k.acting.out.kept c rows = whole_by k.acting.node k.acting.input k.acting.out.kept dest c rows k.why in
         let l : Leads k.acting c = leads k.acting w.leads c w.is in
@@ -95,7 +95,7 @@ module _ (tests : Tests) (setup : Deployment) (t : Moment) (event : Event) (h : 
   pieces_now : (c : Membership) (l : Leading t (goes_to t h.after) c) → IsSentInPieces (goes_to t h.after) c l.node.rows
   pieces_now c l = record {
     initial = initial_now t h.after c onward l;
-    pieces = λ from dest number pieces rows s. elim (sent_how tests setup t event h turn from dest (StatePiece c number pieces rows) (λ x. x) s) [
+    pieces = λ from dest number pieces rows s. elim (sent_why tests setup t event h turn from dest (StatePiece c number pieces rows) (λ x. x) s) [
       | inl k ↦ absurd (let all = turn.before.transfer.pieces from dest number pieces c rows k in no_initial tests setup t event h turn c l (entries_of all.0, all.1.initial))
       | inr k ↦ by_acting from dest number pieces rows k (piece_by k.acting.node k.acting.input k.acting.out.kept dest c number pieces rows k.why)
     ];
@@ -109,7 +109,7 @@ module _ (tests : Tests) (setup : Deployment) (t : Moment) (event : Event) (h : 
 
   -- pieces that are sent are of one list, the initial entries
   pub pieces_then : (from dest number pieces : ℕ) (c : Membership) (rows : List Row) → WasSent (goes_to t h.after) from dest (StatePiece c number pieces rows) → (all : List Row) × IsSentInPieces (goes_to t h.after) c all
-  pieces_then from dest number pieces c rows s = elim (sent_how tests setup t event h turn from dest (StatePiece c number pieces rows) (λ x. x) s) [
+  pieces_then from dest number pieces c rows s = elim (sent_why tests setup t event h turn from dest (StatePiece c number pieces rows) (λ x. x) s) [
     | inl k ↦ pieces_on (turn.before.transfer.pieces from dest number pieces c rows k)
     | inr k ↦ (let p : PieceBy k.acting.node k.acting.input k.acting.out.kept c number pieces rows = piece_by k.acting.node k.acting.input k.acting.out.kept dest c number pieces rows k.why in
         let l : Leads k.acting c = leads k.acting p.leads c p.is in
@@ -121,7 +121,7 @@ module _ (tests : Tests) (setup : Deployment) (t : Moment) (event : Event) (h : 
         all,
         record {
           initial = initial-on t (goes_to t h.after) c (entries_of all) onward k.initial;
-          pieces = λ from dest number pieces rows s. elim (sent_how tests setup t event h turn from dest (StatePiece c number pieces rows) (λ x. x) s) [
+          pieces = λ from dest number pieces rows s. elim (sent_why tests setup t event h turn from dest (StatePiece c number pieces rows) (λ x. x) s) [
             | inl old ↦ k.pieces from dest number pieces rows old
             | inr new ↦ absurd (let p : PieceBy new.acting.node new.acting.input new.acting.out.kept c number pieces rows = piece_by new.acting.node new.acting.input new.acting.out.kept dest c number pieces rows new.why in
                 no_initial tests setup t event h turn c (leads new.acting p.leads c p.is).leading (entries_of all, k.initial))
