@@ -12,19 +12,19 @@ use Rattle.protocol.specs.Invariant.Logs.{Held, Accepted}
 use Rattle.protocol.specs.Invariant.Time.{Moment, worlds, StandsIn}
 use Rattle.protocol.specs.Records.{NodeRecord}
 use Rattle.protocol.specs.World.{World}
-use Rattle.protocol.proofs.FirstRoles.{and-right}
 use Rattle.protocol.proofs.Lists.{all-StandsIn}
 use Rattle.protocol_laws.proofs.Numbered.{AreNumbered, numbered-above, numbered-index}
 use Rattle.protocol_laws.proofs.PastKept.{EntrySays, WorldHolds, PastHolds}
 use Rattle.protocol_laws.proofs.Standing.{IsMapped, map-StandsIn, StandsIn-right}
 use Rattle.protocol_laws.proofs.Stored.{leads_member}
+use Rattle.tcs_terms.proofs.BoolLaws.{right_of}
 
 -- a node of a past world is of the shard that the setup says
 past_shard : (setup : Deployment) (t : Moment) (w : World) (node : NodeRecord) (shard : ℕ) → PastHolds setup t → StandsIn w (worlds t) → StandsIn node w.nodes → is_node_of setup.nodes shard node.name ≡ true → node.shard ≡ shard
 past_shard setup t w node shard p past there of =
     let h : WorldHolds setup t w = p.each w past in
     let at : slice_index (map (λ n. n.shard) w.nodes) (node.name - 1) ≡ node.shard = numbered-index (λ n. n.name) (λ n. n.shard) w.nodes 1 (length setup.nodes) node h.names there in
-    let is : slice_index setup.nodes (node.name - 1) ≡ shard = eqb-true (slice_index setup.nodes (node.name - 1)) shard (and-right (has_node setup.nodes node.name) (slice_index setup.nodes (node.name - 1) == shard) of) in
+    let is : slice_index setup.nodes (node.name - 1) ≡ shard = eqb-true (slice_index setup.nodes (node.name - 1)) shard (right_of (has_node setup.nodes node.name) (slice_index setup.nodes (node.name - 1) == shard) of) in
     sym at ∙ ap (λ ns. slice_index ns (node.name - 1)) h.shards ∙ is
 
 pub accepted-says : (tests : Tests) (setup : Deployment) (t : Moment) (c : Membership) (x : Preparation) → InvariantHolds tests setup t → PastHolds setup t → Accepted t c x → EntrySays setup.shards t c.shard x

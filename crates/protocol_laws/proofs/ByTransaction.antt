@@ -7,7 +7,6 @@ use Rattle.tcs_terms.specs.Logs.{same_txn, txns_differ}
 use Rattle.tcs_terms.proofs.BoolLaws.{both, left_of, right_of, not_false}
 use Rattle.protocol.specs.Invariant.Time.{StandsIn}
 use Rattle.protocol_laws.proofs.SameTxn.{same_txn-differ, same_txn-eq, same_txn-self}
-use Rattle.protocol.proofs.FirstRoles.{and-left, and-right}
 
 abbrev pub keys : {X : Type 0} → List (TxId × X) → List TxId
 keys es = map (λ e. e.0) es

@@ -17,7 +17,6 @@ use Rattle.protocol.specs.Outcomes.{Out}
 use Rattle.protocol.specs.Records.{NodeRecord}
 use Rattle.protocol.specs.Invariant.Decisions.{IsBehind, RowHolds}
 use Rattle.protocol.specs.Invariant.Time.{Moment, StandsIn, WasSent}
-use Rattle.protocol.proofs.FirstRoles.{and-left, and-right}
 use Rattle.protocol.proofs.Lists.{find-StandsIn}
 use Rattle.protocol_laws.specs.Effect.{Effect}
 use Rattle.protocol_laws.specs.Turn.{Onward}
@@ -27,6 +26,7 @@ use Rattle.protocol_laws.proofs.TransactionsRows.RowCame.{WasThere, WasMarked, W
 use Rattle.protocol_laws.proofs.SameTxn.{same_txn-eq}
 use Rattle.protocol_laws.proofs.Ascending.{ascending-one}
 use Rattle.protocol_laws.proofs.TransactionsActing.{IsActing}
+use Rattle.tcs_terms.proofs.BoolLaws.{left_of, right_of}
 
 -- the row of a slot that holds a transaction is of it
 at_slot_is : (rows : List Row) (slot : ℕ) (txn : TxId) (old : Row) → AreRows rows → has_at rows slot txn ≡ true → StandsIn old rows → old.entry.slot ≡ slot → old.entry.txn ≡ txn

@@ -22,13 +22,13 @@ use Rattle.protocol.specs.Outcomes.{Out}
 use Rattle.protocol.specs.Records.{NodeRecord}
 use Rattle.protocol.specs.ShardRules.{is_leader}
 use Rattle.protocol.specs.World.{World, Sent, Happening, node_of, message_of}
-use Rattle.protocol.proofs.FirstRoles.{and-right}
 use Rattle.protocol_laws.specs.Change.{Change, Passes, Stops, Acts, AtService, Comes, ByCall, ByMessage}
 use Rattle.protocol_laws.proofs.After.{put_node-back}
 use Rattle.protocol_laws.proofs.AppendedBy.{AsksWithout, effect_appends, one_more}
 use Rattle.protocol_laws.proofs.Numbered.{AreNumbered, numbered-one}
 use Rattle.protocol_laws.proofs.SameTxn.{same_txn-self}
 use Rattle.protocol_laws.proofs.Came.{effect_name}
+use Rattle.tcs_terms.proofs.BoolLaws.{right_of}
 
 -- a leader of the shard that held no row of the transaction before, and has one more without payload after
 pub record FoundBetween (before after : World) (txn : TxId) (shard : ℕ) : Type 0 where
@@ -71,7 +71,7 @@ unprepared w txn shard number from name epoch shards message sent node is found 
 found_by : (setup : Deployment) (w : World) (txn : TxId) (shard name : ℕ) (event : Event) (input : Input) (node : NodeRecord) (out : Out NodeRecord) → event_fits setup event ≡ true → Comes w name event input
     → node_of w.nodes name ≡ Some node → node.shard ≡ shard → row_of node.rows txn ≡ None → AsksWithout txn input out → finds_nothing w txn shard event ≡ true
 found_by setup w txn shard name e i node out fits (ByCall input) at of nothing a =
-    let f : input_fits setup input ≡ true = and-right (has_node setup.nodes name) (input_fits setup input) fits in
+    let f : input_fits setup input ≡ true = right_of (has_node setup.nodes name) (input_fits setup input) fits in
     absurd (cc (subst (λ x. input_fits setup x ≡ true) a.is f))
 found_by setup w txn shard name e i node out fits (ByMessage number from message sent is found s) at of nothing a =
     unprepared w txn shard number from name a.epoch a.shards message sent node is found (cc a.is) at of nothing

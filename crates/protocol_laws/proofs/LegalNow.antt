@@ -13,12 +13,12 @@ use Rattle.tcs_laws.specs.Certification.{Tests, committed_passes, committed_pass
 use Rattle.tcs_laws.specs.Laws.{IsLawful}
 use Rattle.protocol.specs.History.{payload_in}
 use Rattle.protocol.specs.Invariant.Time.{Moment, StandsIn}
-use Rattle.protocol.proofs.FirstRoles.{and-left}
 use Rattle.protocol_laws.proofs.DecidedEntries.{CommittedEntry, committed-entry}
 use Rattle.protocol_laws.proofs.DecidesNow.{DecidesNow, earlier-noted, now-noted}
 use Rattle.protocol_laws.proofs.LegalInShard.{legal_in_shard, IsVotedToCommit}
 use Rattle.protocol_laws.proofs.PartsOf.{part-shard}
 use Rattle.protocol_laws.proofs.Standing.{all-from, range-StandsIn}
+use Rattle.tcs_terms.proofs.BoolLaws.{left_of}
 
 all_one : (P : Accesses → Type 0) (p : Accesses) → P p → All P (p ∷ [])
 all_one P p h zero d l = h
@@ -28,7 +28,7 @@ pub legal_now : (tests : Tests) (setup : Deployment) (t : Moment) (earlier : Lis
     → DecidesNow tests setup t earlier txn Commit → (StandsIn (Decide txn Commit) earlier → ⊥) → StandsIn (Decide other Commit) earlier
     → payload_in t.now.history other ≡ Some old → payload_in t.now.history txn ≡ Some new → IsPayload old → tests.committed_ok old new ≡ true
 legal_now tests setup t earlier txn other old new deployment lawful d first committed p q formed =
-    and-left (tests.committed_ok old new) true
+    left_of (tests.committed_ok old new) true
     (lawful.by_shards setup.shards deployment.some_shards deployment.few_shards (old ∷ []) new (all_one IsPayload old formed)
     ∙ all-from (λ shard. committed_passes_in tests setup.shards shard (old ∷ []) new) (range_with_len 1 setup.shards) each)
   where

@@ -14,7 +14,6 @@ use Rattle.protocol.specs.Invariant.Time.{Moment, goes_to, StandsIn, IsNode, IsS
 use Rattle.protocol.specs.Outcomes.{Out}
 use Rattle.protocol.specs.Records.{NodeRecord}
 use Rattle.protocol.specs.World.{World, Sent, Happening, happens_at, sent_by}
-use Rattle.protocol.proofs.FirstRoles.{and-right}
 use Rattle.protocol_laws.specs.Change.{Change, Passes, Stops, Acts, AtService, Comes, ByCall, ByMessage, Serves, HoldsBack, Tells, Stores}
 use Rattle.protocol_laws.specs.Turn.{Turn, Onward, Grows, GrewFrom, GrewTo}
 use Rattle.protocol_laws.proofs.After.{put_node-back, put_node-there, put_node-other}
@@ -22,6 +21,7 @@ use Rattle.protocol_laws.proofs.GrowsOf.{StartsAtOne, grows_of}
 use Rattle.protocol_laws.proofs.Lasting.{one_node}
 use Rattle.protocol_laws.proofs.Stored.{stored-some}
 use Rattle.protocol_laws.proofs.Standing.{StandsIn-left}
+use Rattle.tcs_terms.proofs.BoolLaws.{right_of}
 
 -- a node as it is grows into itself
 grows_same : (node : NodeRecord) → Grows node node
@@ -49,7 +49,7 @@ serves-keeps nodes configs from m o (Stores d last a b e) c s = StandsIn-left co
 -- the configuration that a node is told to lead is stored, and so of an epoch of at least 1
 starts_at_one : (setup : Deployment) (t : Moment) (name : ℕ) (event : Event) (input : Input) → ConfigurationsHold setup t → event_fits setup event ≡ true → Comes t.now name event input → StartsAtOne input
 starts_at_one setup t name e i k f (ByCall input) from config h =
-    let fits : input_fits setup input ≡ true = and-right (has_node setup.nodes name) (input_fits setup input) f in
+    let fits : input_fits setup input ≡ true = right_of (has_node setup.nodes name) (input_fits setup input) f in
     absurd (cc (subst (λ x. input_fits setup x ≡ true) h fits))
 starts_at_one setup t name e i k f (ByMessage number sender message sent is found s) from config h =
     let is_new : message ≡ NewConfig config = cc in

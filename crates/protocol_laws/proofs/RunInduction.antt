@@ -5,7 +5,7 @@ use Rattle.tcs_terms.specs.declared.inputs.Event.{Event}
 use Rattle.tcs_terms.specs.Events.{event_fits}
 use Rattle.tcs_terms.specs.Setups.{Deployment, IsDeployment}
 use Rattle.tcs_laws.specs.Certification.{Tests}
-use Rattle.protocol.proofs.FirstRoles.{and-left, and-right, start}
+use Rattle.protocol.proofs.FirstRoles.{start}
 use Rattle.protocol.proofs.Start.{start-InvariantHolds}
 use Rattle.protocol.specs.Invariant.{InvariantHolds}
 use Rattle.protocol.specs.Invariant.Time.{Moment, StandsIn, goes_to, time_after}
@@ -14,6 +14,7 @@ use Rattle.protocol_laws.proofs.ChangeOf.{change_of}
 use Rattle.protocol_laws.proofs.Kept.{invariant_kept}
 use Rattle.protocol_laws.specs.Runs.{AreEvents}
 use Rattle.protocol_laws.specs.Turn.{Turn}
+use Rattle.tcs_terms.proofs.BoolLaws.{left_of, right_of}
 
 -- what each turn keeps, for events of which Q is so; the invariant holds before and after it
 abbrev pub IsKept : Tests → Deployment → (Event → Type 0) → (Moment → Type 0) → Type 0
@@ -33,9 +34,9 @@ from_moment : (tests : Tests) (setup : Deployment) (Q : Event → Type 0) (P : M
 from_moment tests setup Q P d k [] f s t b = b
 from_moment tests setup Q P d k (e ∷ es) f s t b =
     let h : Happening = world_step tests setup.version t.now e in
-    let turn : Turn tests setup t e h = record { deployment = d; fits = and-left (event_fits setup e) (list_all (event_fits setup) es) f; before = b.holds; change = change_of tests setup.version t.now e } in
+    let turn : Turn tests setup t e h = record { deployment = d; fits = left_of (event_fits setup e) (list_all (event_fits setup) es) f; before = b.holds; change = change_of tests setup.version t.now e } in
     let after : InvariantHolds tests setup (goes_to t h.after) = invariant_kept tests setup t e h turn in
-    from_moment tests setup Q P d k es (and-right (event_fits setup e) (list_all (event_fits setup) es) f) (λ x q. s x (inr q)) (goes_to t h.after)
+    from_moment tests setup Q P d k es (right_of (event_fits setup e) (list_all (event_fits setup) es) f) (λ x q. s x (inr q)) (goes_to t h.after)
       (record { holds = after; kept = k t e h turn after (s e (inl refl)) b.kept })
 
 at_start : (tests : Tests) (setup : Deployment) → IsDeployment setup → InvariantHolds tests setup (record { now = first_world setup; before = [] })

@@ -14,7 +14,7 @@ use Rattle.protocol.proofs.Lists.{all-StandsIn, among-StandsIn}
 use Rattle.protocol_laws.proofs.Came.{IsNext}
 
 -- a stored configuration stands among those of its shard
-pub stands_in_shard : (t : Moment) (shard : ℕ) (c : Membership) → IsStored t c → c.shard ≡ shard → StandsIn c (filter (λ x. x.shard == shard) t.now.configs)
+stands_in_shard : (t : Moment) (shard : ℕ) (c : Membership) → IsStored t c → c.shard ≡ shard → StandsIn c (filter (λ x. x.shard == shard) t.now.configs)
 stands_in_shard t shard c s e = StandsIn-filter (λ x. x.shard == shard) t.now.configs c s (eq-eqb c.shard shard e)
 
 -- the epochs of stored configurations begin at 1

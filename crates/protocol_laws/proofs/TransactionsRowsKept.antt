@@ -27,10 +27,10 @@ use Rattle.protocol_laws.proofs.Came.{effect_name, Acting}
 use Rattle.tcs_terms.specs.declared.inputs.Input.TheVariants as inputs
 use Rattle.tcs_terms.specs.declared.messages.Message.{Message}
 use Rattle.tcs_terms.specs.Events.{event_fits, input_fits}
-use Rattle.protocol.proofs.FirstRoles.{and-right}
 use Rattle.protocol_laws.specs.Change.{Comes}
 use Rattle.protocol_laws.specs.Change.Comes.{ByCall, ByMessage}
 use Rattle.protocol_laws.proofs.ConfigurationsInputs.{delivered}
+use Rattle.tcs_terms.proofs.BoolLaws.{right_of}
 
 not_lost : (row : Option Row) → is_lost (vote_by row) ≡ false
 not_lost None = refl
