@@ -1,7 +1,5 @@
 -- What an accepted entry says of its transaction is so, and how a listed entry was appended.
-use Rattle.std.proofs.Common.{◌≡◌, ℕ, suc, ◌+◌, ◌-◌, ◌≤◌, true, List, [], ◌∷◌, ◌++◌, ◌==◌, ◌&&◌, map, length, slice_index, inl, inr, sym, ◌∙◌, ap, subst, refl, arith, eqb-true}
-use Rattle.std.specs.List.{list_all}
-use Rattle.tcs_terms.specs.declared.logs.Row.{Row}
+use Rattle.std.proofs.Common.{◌≡◌, ℕ, ◌-◌, true, List, [], ◌∷◌, ◌++◌, ◌==◌, map, length, slice_index, inl, inr, sym, ◌∙◌, ap, subst, refl, eqb-true}
 use Rattle.tcs_terms.specs.Places.{Membership}
 use Rattle.tcs_terms.specs.Preparations.{Preparation}
 use Rattle.tcs_terms.specs.Setups.{Deployment, has_node, is_node_of}
@@ -13,7 +11,7 @@ use Rattle.protocol.specs.Invariant.Time.{Moment, worlds, StandsIn}
 use Rattle.protocol.specs.Records.{NodeRecord}
 use Rattle.protocol.specs.World.{World}
 use Rattle.protocol.proofs.Lists.{all-StandsIn}
-use Rattle.protocol_laws.proofs.Numbered.{AreNumbered, numbered-above, numbered-index}
+use Rattle.protocol_laws.proofs.Numbered.{numbered-index}
 use Rattle.protocol_laws.proofs.PastKept.{EntrySays, WorldHolds, PastHolds}
 use Rattle.protocol_laws.proofs.Standing.{IsMapped, map-StandsIn, StandsIn-right}
 use Rattle.protocol_laws.proofs.Stored.{leads_member}

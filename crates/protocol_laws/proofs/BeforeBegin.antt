@@ -1,5 +1,5 @@
 -- What was committed before a transaction began stands before it in the order.
-use Rattle.std.proofs.Common.{◌≡◌, ℕ, suc, zero, ◌+◌, ◌≤◌, Bool, true, false, not, cond, List, [], ◌∷◌, ◌++◌, ◌||◌, filter, take, drop, Option, Some, None, is_some, ◌⊎◌, inl, inr, sym, ◌∙◌, ap, subst, refl, arith}
+use Rattle.std.proofs.Common.{◌≡◌, ℕ, suc, ◌+◌, Bool, true, false, not, cond, List, [], ◌∷◌, ◌++◌, filter, take, drop, Option, Some, None, is_some, inl, inr, sym, ◌∙◌, ap, subst, refl, arith}
 use Rattle.std.proofs.lemmas.List.{take-append-drop}
 use Rattle.std.specs.List.{prefix_len}
 use Rattle.tcs_terms.specs.declared.ids.TxId.{TxId}
@@ -8,8 +8,7 @@ use Rattle.tcs_terms.specs.declared.inputs.Note.TheVariants.{Decide}
 use Rattle.tcs_terms.specs.declared.votes.Decision.TheVariants.{Commit}
 use Rattle.tcs_terms.specs.Logs.{same_txn}
 use Rattle.tcs_terms.specs.Payloads.{Accesses}
-use Rattle.protocol.proofs.Lists.{StandsIn-append}
-use Rattle.protocol.specs.History.{begins_with, commit_in, first_of_each, first_some, has_begun, order_of, payload_in}
+use Rattle.protocol.specs.History.{begins_with, first_of_each, first_some, has_begun, order_of, payload_in}
 use Rattle.protocol.specs.Invariant.Time.{StandsIn}
 use Rattle.protocol.specs.OneCopy.{before_begin}
 use Rattle.protocol_laws.proofs.BegunFirst.{BegunFirst}

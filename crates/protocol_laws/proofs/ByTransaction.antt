@@ -1,5 +1,5 @@
 -- What stands in a list by transaction, after one is looked up, set, removed or added.
-use Rattle.std.proofs.Common.{◌≡◌, Bool, true, false, cond, not, ◌||◌, List, [], ◌∷◌, ◌++◌, map, Some, None, ◌⊎◌, inl, inr, sym, ◌∙◌, ap, refl, ℕ, zero, suc, flat_map, take, drop, ◌==◌, ap₂, subst, eqb-true}
+use Rattle.std.proofs.Common.{◌≡◌, Bool, true, false, cond, not, ◌||◌, List, [], ◌∷◌, ◌++◌, map, Some, None, ◌⊎◌, inl, inr, sym, ◌∙◌, ap, refl, ap₂, subst}
 use Rattle.std.specs.Map.{lookup, set_value, remove_entry}
 use Rattle.std.specs.List.{list_any}
 use Rattle.tcs_terms.specs.declared.ids.TxId.{TxId}

@@ -1,6 +1,6 @@
 -- The cause of an abort at the moment of its decision: a clash names a transaction that began before and fails the
 -- prepared test; what is lost was taken over.
-use Rattle.std.proofs.Common.{◌≡◌, ℕ, Bool, true, false, not, ◌&&◌, List, [], ◌∷◌, Option, Some, None, is_none, inl, inr, ◌⊎◌, sym, ◌∙◌, ap, subst, refl}
+use Rattle.std.proofs.Common.{◌≡◌, ℕ, true, false, ◌&&◌, List, [], ◌∷◌, Option, Some, None, is_none, inl, inr, ◌⊎◌, sym, ◌∙◌, ap, subst, refl}
 use Rattle.tcs_terms.specs.declared.ids.TxId.{TxId}
 use Rattle.tcs_terms.specs.declared.inputs.Note.{Note}
 use Rattle.tcs_terms.specs.declared.inputs.Note.TheVariants.{Take, Decide}
@@ -22,7 +22,7 @@ use Rattle.protocol.specs.Invariant.Decisions.{IsDecidedBy}
 use Rattle.protocol.specs.Invariant.Entries.{Appended}
 use Rattle.protocol.specs.Invariant.Logs.{Listed}
 use Rattle.protocol.specs.Invariant.{InvariantHolds}
-use Rattle.protocol.specs.Invariant.Time.{Moment, worlds, StandsIn, WasNoted}
+use Rattle.protocol.specs.Invariant.Time.{Moment, StandsIn, WasNoted}
 use Rattle.protocol.specs.Invariant.Transactions.{FoundNothingBy}
 use Rattle.protocol.specs.Log.{vote_on_part}
 use Rattle.protocol.specs.Records.{Part}
@@ -71,6 +71,7 @@ names_row tests setup t earlier txn other shard new r lawful now among says clas
   where
     begun : payload_in earlier other ≡ Some says.payload
     begun = sym (earlier-payload tests setup t earlier txn other (Abort shard (causes.Clash other)) now) ∙ ap (λ m. payload_in t.now.history m) (sym is) ∙ says.begun
+
     fails : (o : Option Accesses) → r.entry.payload ≡ o → refuses_by tests r.mark r.entry.vote o (part_in setup.shards shard new) ≡ true
         → (r.entry.payload ≡ restricted setup.shards shard says.payload) ⊎ ((r.entry.payload ≡ None) × StandsIn (Take r.entry.txn) t.now.history) → prepared_passes_in tests setup.shards shard (says.payload ∷ []) new ≡ false
     fails None e c p = absurd (cc c)

@@ -19,7 +19,6 @@ use Rattle.protocol.specs.Invariant.Time.{Moment, StandsIn, IsNode, IsStored, Wa
 use Rattle.protocol_laws.specs.Change.{Change}
 use Rattle.protocol_laws.specs.Change.Change.{Passes, Stops, Acts, AtService}
 use Rattle.protocol_laws.specs.Turn.{Turn, Onward}
-use Rattle.protocol_laws.proofs.After.{put_node-back}
 use Rattle.protocol_laws.proofs.OnwardOf.{onward_of}
 use Rattle.protocol_laws.proofs.ConfigurationsInputs.{delivered}
 use Rattle.protocol_laws.proofs.ConfigurationsSaid.{Says, is_plain}

@@ -1,7 +1,6 @@
 -- A prober's next stage holds, by what held before.
-use Rattle.std.proofs.Common.{◌≡◌, ℕ, zero, suc, ◌<◌, ◌≤◌, ◌+◌, ◌-◌, Bool, true, false, cond, List, [], ◌∷◌, ◌++◌, map, filter, length, ◌⊎◌, inl, inr, sym, subst, refl, arith, ◌==◌, eq-eqb, eqb-true}
+use Rattle.std.proofs.Common.{◌≡◌, ℕ, ◌<◌, ◌≤◌, ◌-◌, Bool, true, false, cond, List, [], ◌∷◌, ◌++◌, length, ◌⊎◌, inl, inr, sym, subst, refl, arith, ◌==◌, eqb-true}
 use Rattle.std.proofs.lemmas.Bool.{eqb-false}
-use Rattle.std.specs.List.{range_with_len}
 use Rattle.tcs_terms.specs.declared.inputs.Input.{Input}
 use Rattle.tcs_terms.specs.declared.inputs.Input.TheVariants as inputs
 use Rattle.tcs_terms.specs.declared.messages.Message.{Message}
@@ -15,7 +14,6 @@ use Rattle.protocol.specs.Outcomes.{Out}
 use Rattle.protocol.specs.Probing.{proposed}
 use Rattle.protocol.specs.Records.{Stage, NodeRecord}
 use Rattle.protocol.specs.Records.Stage.{Probing}
-use Rattle.protocol.specs.Service.{last_epoch}
 use Rattle.protocol.specs.Invariant.Answers.{AnswerHolds, AnswersHold}
 use Rattle.protocol.specs.Invariant.Choice.{StandsAt, IsLow, IsChosen, StageHolds}
 use Rattle.protocol.specs.Invariant.Configurations.{ConfigurationsHold, probed_configs}
@@ -24,9 +22,8 @@ use Rattle.protocol.specs.Invariant.Time.{Moment, StandsIn, IsNode, IsStored, Wa
 use Rattle.protocol.proofs.Lists.{StandsIn-append, among-StandsIn}
 use Rattle.protocol_laws.specs.Effect.{Hears, Effect}
 use Rattle.protocol_laws.specs.Effect.Hears.{Waits, ProbesLast, ProbesLower, IsDone}
-use Rattle.protocol_laws.specs.Effect.Effect.{Rests, Certifies, TakesOver, Nudges, Moves, Lowers, Reads, Asks, AnswersAgain, Appends, Votes, Acknowledges, Changes, Learns, Keeps, Accepts, Marks, Promises, Chooses, FindsLow, Leads, Follows, Gathers, FollowsPieces}
+use Rattle.protocol_laws.specs.Effect.Effect.{Rests, Moves, Lowers, Learns, Chooses, FindsLow}
 use Rattle.protocol_laws.proofs.ConfigurationsHad.{had}
-use Rattle.protocol_laws.proofs.Standing.{StandsIn-map, StandsIn-filter}
 use Rattle.protocol_laws.proofs.Stored.{stored-some}
 
 -- what a probing stage holds

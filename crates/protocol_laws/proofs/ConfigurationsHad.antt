@@ -20,7 +20,7 @@ use Rattle.protocol_laws.specs.Effect.{Sees, Hears, GoesOn, Effect}
 use Rattle.protocol_laws.specs.Effect.GoesOn.{Waiting, Decides}
 use Rattle.protocol_laws.specs.Effect.Sees.{Replaces, Keeps as KeepsView}
 use Rattle.protocol_laws.specs.Effect.Hears.{Waits, ProbesLast, ProbesLower, IsDone}
-use Rattle.protocol_laws.specs.Effect.Effect.{Rests, Certifies, TakesOver, Nudges, Moves, Lowers, Reads, Asks, AnswersAgain, Appends, Votes, Acknowledges, Changes, Learns, Keeps, Accepts, Marks, Promises, Chooses, FindsLow, Leads, Follows, Gathers, FollowsPieces}
+use Rattle.protocol_laws.specs.Effect.Effect.{Rests, Moves, Lowers, Votes, Acknowledges, Changes, Learns, Promises, Chooses, FindsLow, Leads, Follows, Gathers, FollowsPieces}
 use Rattle.protocol_laws.proofs.Standing.{StandsIn-left, StandsIn-right}
 
 -- the places that a node keeps: its role, its views, its stage and what it gathers

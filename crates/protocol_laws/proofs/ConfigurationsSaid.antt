@@ -1,29 +1,20 @@
 -- What a node says of places in one event, rule by rule.
-use Rattle.std.proofs.Common.{◌≡◌, ℕ, Bool, true, false, List, [], ◌∷◌, ◌++◌, map, flat_map, Some, inl, inr, sym, subst, refl, ◌==◌, ◌≤◌, None}
-use Rattle.std.specs.List.{range_with_len}
+use Rattle.std.proofs.Common.{◌≡◌, ℕ, Bool, true, false, List, Some, refl, ◌≤◌, None}
 use Rattle.tcs_terms.specs.declared.inputs.Input.{Input}
 use Rattle.tcs_terms.specs.declared.inputs.Input.TheVariants as inputs
-use Rattle.tcs_terms.specs.declared.logs.Row.{Row}
 use Rattle.tcs_terms.specs.declared.messages.Message.{Message}
 use Rattle.tcs_terms.specs.declared.messages.Message.TheVariants.{Probe, ProbeAck, NewConfig, NewState, Cas, Stored, StatePiece, Prepare, PrepareAck, Accept, AcceptAck, DecisionFor, ConfigChange, Last, At, OutcomeOf, Refused}
 use Rattle.tcs_terms.specs.declared.messages.Outgoing.{Outgoing}
 use Rattle.tcs_terms.specs.Places.{Membership}
 use Rattle.tcs_laws.specs.Certification.{Tests}
-use Rattle.protocol.specs.Choices.{when}
-use Rattle.protocol.specs.Outcomes.{Out, to}
-use Rattle.protocol.specs.Pieces.{piece_count, piece_of}
-use Rattle.protocol.specs.Probing.{ask_stage, tell_leader}
-use Rattle.protocol.specs.Records.{Coordinator, Stage, NodeRecord, Case}
-use Rattle.protocol.specs.Records.Stage.{Idle, AskedLast, Probing, AskedLower, CasSent}
-use Rattle.protocol.specs.ShardRules.{state_to, least}
-use Rattle.protocol.specs.Views.{followers}
+use Rattle.protocol.specs.Outcomes.{Out}
+use Rattle.protocol.specs.Probing.{ask_stage}
+use Rattle.protocol.specs.Records.{Coordinator, NodeRecord, Case}
+use Rattle.protocol.specs.Records.Stage.{CasSent}
+use Rattle.protocol.specs.ShardRules.{least}
 use Rattle.protocol.specs.Invariant.Configurations.{told_config}
-use Rattle.protocol.specs.Invariant.Time.{StandsIn}
-use Rattle.protocol.proofs.Lists.{StandsIn-append}
-use Rattle.protocol_laws.specs.Effect.{Sees, Hears, Effect, GoesOn}
-use Rattle.protocol_laws.specs.Effect.Sees.{Replaces, Keeps as KeepsView}
-use Rattle.protocol_laws.specs.Effect.Hears.{Waits, ProbesLast, ProbesLower, IsDone}
-use Rattle.protocol_laws.specs.Effect.Effect.{Rests, Certifies, TakesOver, Nudges, Moves, Lowers, Reads, Asks, AnswersAgain, Appends, Votes, Acknowledges, Changes, Learns, Keeps, Accepts, Marks, Promises, Chooses, FindsLow, Leads, Follows, Gathers, FollowsPieces}
+use Rattle.protocol_laws.specs.Effect.{Effect, GoesOn}
+use Rattle.protocol_laws.specs.Effect.Effect.{Rests, Certifies, TakesOver, Nudges, Moves, Lowers, Asks, AnswersAgain, Appends, Votes, Acknowledges, Changes, Learns, Accepts, Promises, Chooses, Leads}
 use Rattle.tcs_terms.specs.declared.ids.TxId.{TxId}
 use Rattle.protocol.specs.Cases.{send_case, decision_of}
 use Rattle.protocol.specs.Coordination.{resend, ask_leader}

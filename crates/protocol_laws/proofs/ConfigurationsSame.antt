@@ -9,7 +9,7 @@ use Rattle.protocol.specs.Outcomes.{Out}
 use Rattle.protocol.specs.Records.{Coordinator, NodeRecord}
 use Rattle.protocol_laws.specs.Effect.{Sees, Effect}
 use Rattle.protocol_laws.specs.Effect.Sees.{Replaces, Keeps as KeepsView}
-use Rattle.protocol_laws.specs.Effect.Effect.{Rests, Certifies, TakesOver, Nudges, Moves, Lowers, Reads, Asks, AnswersAgain, Appends, Votes, Acknowledges, Changes, Learns, Keeps, Accepts, Marks, Promises, Chooses, FindsLow, Leads, Follows, Gathers, FollowsPieces}
+use Rattle.protocol_laws.specs.Effect.Effect.{Rests, Votes, Acknowledges, Changes, Learns}
 use Rattle.protocol_laws.proofs.ConfigurationsHad.{goes_on-views, replaced-shards, change_view-views}
 
 -- the shards of views

@@ -4,19 +4,15 @@ use Rattle.std.proofs.lemmas.List.{map-append, append-nil}
 use Rattle.std.proofs.lemmas.List.Elements.{filter-append}
 use Rattle.std.specs.List.{range_with_len, last_or}
 use Rattle.tcs_terms.specs.declared.messages.Message.{Message}
-use Rattle.tcs_terms.specs.declared.messages.Message.TheVariants.{ConfigChange, Cas, Stored}
-use Rattle.tcs_terms.specs.declared.messages.Outgoing.{Outgoing}
+use Rattle.tcs_terms.specs.declared.messages.Message.TheVariants.{Cas}
 use Rattle.tcs_terms.specs.Places.{Membership}
-use Rattle.protocol.specs.Outcomes.{Out, to}
-use Rattle.protocol.specs.Service.{tell_nodes}
+use Rattle.protocol.specs.Outcomes.{Out}
 use Rattle.protocol.specs.Views.{epoch_of}
-use Rattle.protocol.specs.Invariant.Configurations.{told_config}
 use Rattle.protocol.specs.Invariant.Time.{StandsIn}
 use Rattle.protocol.proofs.Lists.{StandsIn-append}
 use Rattle.protocol_laws.specs.Change.{Serves}
 use Rattle.protocol_laws.specs.Change.Serves.{HoldsBack, Tells, Stores}
-use Rattle.protocol_laws.proofs.Standing.{StandsIn-left, StandsIn-right}
-use Rattle.protocol_laws.proofs.ConfigurationsSaid.{is_plain}
+use Rattle.protocol_laws.proofs.Standing.{StandsIn-left}
 
 -- the epochs of one shard's configurations are 1 to the last one
 abbrev pub EpochsFit : List Membership → Type 0

@@ -16,7 +16,7 @@ use Rattle.protocol.specs.Invariant.Time.{StandsIn}
 use Rattle.protocol.proofs.Lists.{StandsIn-append, all-StandsIn, among-StandsIn}
 use Rattle.protocol_laws.specs.Effect.{Hears, Effect}
 use Rattle.protocol_laws.specs.Effect.Hears.{Waits, ProbesLast, ProbesLower, IsDone}
-use Rattle.protocol_laws.specs.Effect.Effect.{Rests, Certifies, TakesOver, Nudges, Moves, Lowers, Reads, Asks, AnswersAgain, Appends, Votes, Acknowledges, Changes, Learns, Keeps, Accepts, Marks, Promises, Chooses, FindsLow, Leads, Follows, Gathers, FollowsPieces}
+use Rattle.protocol_laws.specs.Effect.Effect.{Rests, Moves, Lowers, Learns, Chooses, FindsLow}
 use Rattle.protocol_laws.proofs.Standing.{StandsIn-right, filter-StandsIn, all-from, StandsIn-among}
 
 -- the wanted nodes and one more

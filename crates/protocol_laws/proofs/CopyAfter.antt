@@ -1,7 +1,6 @@
 -- What one copy of the data has of an object: what the last payload that writes it wrote.
-use Rattle.std.proofs.Common.{◌≡◌, ℕ, Bool, true, false, List, [], ◌∷◌, ◌++◌, ◌||◌, cond, find, fold, Option, Some, None, ◌⊎◌, inl, inr, sym, ◌∙◌, ap, subst, refl}
+use Rattle.std.proofs.Common.{◌≡◌, ℕ, Bool, true, false, List, [], ◌∷◌, ◌++◌, ◌||◌, cond, find, fold, Some, None, inl, inr, ◌∙◌, ap, refl}
 use Rattle.std.proofs.lemmas.List.Sums.{fold-append}
-use Rattle.std.specs.List.{list_any}
 use Rattle.tcs_terms.specs.declared.payloads.WritePart.{WritePart}
 use Rattle.tcs_terms.specs.Payloads.{Accesses, same_name}
 use Rattle.tcs_laws.specs.Writing.{writes_name}

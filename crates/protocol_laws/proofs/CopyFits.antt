@@ -1,8 +1,8 @@
 -- One copy: each committed transaction, with honest reads, finds in the copy what it read.
-use Rattle.std.proofs.Common.{◌≡◌, ℕ, ◌≤◌, Bool, true, false, not, List, [], ◌∷◌, ◌++◌, ◌&&◌, ◌||◌, ◌==◌, cond, drop, take, find, flat_map, fold, nat_le, nat_eq, Option, Some, None, is_some, ◌⊎◌, inl, inr, sym, ◌∙◌, ap, subst, refl, arith, eq-eqb, eqb-true, IfSome}
+use Rattle.std.proofs.Common.{◌≡◌, ℕ, ◌≤◌, Bool, true, false, not, List, [], ◌∷◌, ◌&&◌, ◌||◌, ◌==◌, find, flat_map, fold, nat_le, nat_eq, Option, Some, None, is_some, inl, inr, sym, ◌∙◌, ap, subst, refl, arith, eq-eqb, eqb-true, IfSome}
 use Rattle.std.proofs.lemmas.Bool.{le-leb}
 use Rattle.std.specs.Cmp.Lexicographic.{pointwise}
-use Rattle.std.specs.List.{list_all, list_any, prefix_len}
+use Rattle.std.specs.List.{list_all, list_any}
 use Rattle.tcs_terms.proofs.BoolLaws.{both, left_of, right_of}
 use Rattle.tcs_terms.specs.declared.ids.TxId.{TxId}
 use Rattle.tcs_terms.specs.declared.inputs.Note.{Note}
@@ -16,10 +16,10 @@ use Rattle.tcs_laws.proofs.ListLemmas.{find_some}
 use Rattle.tcs_laws.specs.Certification.{Tests}
 use Rattle.tcs_laws.specs.Writing.{writes_name}
 use Rattle.protocol.proofs.Lists.{all-StandsIn, find-StandsIn}
-use Rattle.protocol.specs.History.{begins_with, order_of, payload_in, payloads_of}
+use Rattle.protocol.specs.History.{payload_in, payloads_of}
 use Rattle.protocol.specs.Invariant.Time.{StandsIn}
 use Rattle.protocol.specs.OneCopy.{Copied, before_begin, copy_after, fits_copy, honest_after, overwritten, range_fits, read_fits, tells_value, tells_version}
-use Rattle.protocol_laws.proofs.CopyTells.{Place, Told, copy-told, reading-Told}
+use Rattle.protocol_laws.proofs.CopyTells.{Place, copy-told, reading-Told}
 use Rattle.protocol_laws.proofs.LegalOrder.{legal-each}
 use Rattle.protocol_laws.proofs.NamesOnce.{same_name-eq, same_name-self}
 use Rattle.protocol_laws.proofs.PayloadReads.{Passing, any-Passing}
@@ -60,13 +60,13 @@ read-fits tests h past t p r l s a =
     let one : Passing (tells_version r.name r.version) (before_begin h t) = any-Passing (tells_version r.name r.version) (before_begin h t) a in
     let reading : IsReading r.name r.version one.one = tells_version-is r.name r.version one.one one.passes in
     let copy : copy_after (payloads_of h past) r.name ≡ record { version = r.version; value = reading.value } =
-      copy-told tests h past t p r reading.value l s (reading-Told tests h past t p r.name r.version reading.value l (subst (λ n. StandsIn n (before_begin h t)) reading.is one.there)) in
+    copy-told tests h past t p r reading.value l s (reading-Told tests h past t p r.name r.version reading.value l (subst (λ n. StandsIn n (before_begin h t)) reading.is one.there)) in
     both ((copy_after (payloads_of h past) r.name).version == r.version) (list_all (tells_value r.name r.version (copy_after (payloads_of h past) r.name).value) (before_begin h t))
     (eq-eqb (copy_after (payloads_of h past) r.name).version r.version (ap (λ c. c.version) copy))
     (all-from (tells_value r.name r.version (copy_after (payloads_of h past) r.name).value) (before_begin h t) (λ n there. tells_value-of r.name r.version (copy_after (payloads_of h past) r.name).value n (λ other is.
-      let same : copy_after (payloads_of h past) r.name ≡ record { version = r.version; value = other } =
-        copy-told tests h past t p r other l s (reading-Told tests h past t p r.name r.version other l (subst (λ m. StandsIn m (before_begin h t)) is there)) in
-      sym (ap (λ c. c.value) same))))
+    let same : copy_after (payloads_of h past) r.name ≡ record { version = r.version; value = other } =
+    copy-told tests h past t p r other l s (reading-Told tests h past t p r.name r.version other l (subst (λ m. StandsIn m (before_begin h t)) is there)) in
+    sym (ap (λ c. c.value) same))))
 
 -- a bound on all writers of an object is one on the copy's version
 copy-bound : (name : List ℕ) (most : ℕ) (old : Copied) (ps : List Accesses) → old.version ≤ most → ((x : Accesses) → StandsIn x ps → writes_name x.writes name ≡ true → x.version ≤ most)

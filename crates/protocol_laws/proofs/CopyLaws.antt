@@ -1,22 +1,17 @@
 -- What follows of versions and of one copy of the data, at the end of a run.
-use Rattle.std.proofs.Common.{◌≡◌, ◌<◌, true, List, ◌∷◌, ◌++◌, Some, inl, sym, subst, refl}
-use Rattle.tcs_terms.specs.declared.ids.TxId.{TxId}
+use Rattle.std.proofs.Common.{◌≡◌, true, List, ◌∷◌, ◌++◌, inl, sym, subst, refl}
 use Rattle.tcs_terms.specs.declared.inputs.Event.{Event}
 use Rattle.tcs_terms.specs.declared.inputs.Note.{Note}
-use Rattle.tcs_terms.specs.Payloads.{Accesses, IsPayload}
 use Rattle.tcs_terms.specs.Setups.{Deployment}
 use Rattle.tcs_laws.specs.Certification.{Tests}
 use Rattle.tcs_laws.specs.Laws.{ChecksReads, IsLawful, OrdersWrites}
-use Rattle.protocol.specs.CorrectHistory.{is_legal}
-use Rattle.protocol.specs.History.{order_of, payload_in, payloads_of}
-use Rattle.protocol.specs.Invariant.{InvariantHolds}
-use Rattle.protocol.specs.Invariant.Time.{StandsIn, time_after}
+use Rattle.protocol.specs.History.{payloads_of}
+use Rattle.protocol.specs.Invariant.Time.{StandsIn}
 use Rattle.protocol.specs.OneCopy.{is_honest, is_one_copy}
 use Rattle.protocol.specs.Run.{run}
 use Rattle.protocol.specs.World.{first_world}
-use Rattle.protocol.proofs.Moments.{time_after-now}
 use Rattle.protocol_laws.specs.Rising.{VersionsRise}
-use Rattle.protocol_laws.specs.Runs.{AreEvents, EventStands, HandInPayloads}
+use Rattle.protocol_laws.specs.Runs.{AreEvents, HandInPayloads}
 use Rattle.protocol_laws.proofs.BegunFirst.{BegunFirst, begun_first}
 use Rattle.protocol_laws.proofs.CorrectOrder.{HaveFormed}
 use Rattle.protocol_laws.proofs.HistoryAt.{formed_at}
@@ -40,13 +35,13 @@ unfolding first_world
 run_versions_rise tests setup events lawful o a p front x between y back old new name e q r =
     let h : List Note = (run tests setup events).history in
     let there : StandsIn new (payloads_of h (between ++ (y ∷ back))) =
-      subst (λ ps. StandsIn new ps) (sym (payloads-append h between (y ∷ back)))
-      (StandsIn-right (payloads_of h between) (payloads_of h (y ∷ back)) new (subst (λ ps. StandsIn new ps) (sym (payloads-first h y back new r)) (inl refl))) in
+    subst (λ ps. StandsIn new ps) (sym (payloads-append h between (y ∷ back)))
+    (StandsIn-right (payloads_of h between) (payloads_of h (y ∷ back)) new (subst (λ ps. StandsIn new ps) (sym (payloads-first h y back new r)) (inl refl))) in
     rise-in-order tests h front x (between ++ (y ∷ back)) old new name o (legal_at tests setup events lawful a p) e q there
 
 pub run_is_one_copy : (tests : Tests) (setup : Deployment) (events : List Event) → IsLawful tests → ChecksReads tests → AreEvents setup events → HandInPayloads events
     → is_honest (run tests setup events).history ≡ true → is_one_copy (run tests setup events).history ≡ true
 run_is_one_copy tests setup events lawful c a p honest =
     one_copy-of tests (run tests setup events).history (legal_at tests setup events lawful a p)
-      (of_run tests setup events BegunFirst (begun_first tests setup events a))
-      (of_run tests setup events TellsWritten (invariant_at tests setup events a).readings.each) c honest
+    (of_run tests setup events BegunFirst (begun_first tests setup events a))
+    (of_run tests setup events TellsWritten (invariant_at tests setup events a).readings.each) c honest

@@ -1,19 +1,19 @@
 -- One copy: what a committed transaction reads is what the copy has where it stands in the order.
-use Rattle.std.proofs.Common.{◌≡◌, ℕ, ◌<◌, ◌≤◌, Bool, true, false, not, List, [], ◌∷◌, ◌++◌, ◌&&◌, ◌||◌, ◌==◌, find, fold, Option, Some, None, is_some, ◌⊎◌, inl, inr, sym, ◌∙◌, ap, subst, refl, arith, append_assoc, IfSome}
+use Rattle.std.proofs.Common.{◌≡◌, ℕ, ◌<◌, ◌≤◌, true, List, [], ◌∷◌, ◌++◌, find, Some, ◌⊎◌, inl, inr, sym, ◌∙◌, ap, subst, arith, append_assoc}
 use Rattle.tcs_terms.specs.declared.ids.TxId.{TxId}
 use Rattle.tcs_terms.specs.declared.inputs.Note.{Note}
-use Rattle.tcs_terms.specs.declared.inputs.Note.TheVariants.{Begin, Take, ReadValue, Decide}
+use Rattle.tcs_terms.specs.declared.inputs.Note.TheVariants.{ReadValue, Decide}
 use Rattle.tcs_terms.specs.declared.payloads.ReadPart.{ReadPart}
 use Rattle.tcs_terms.specs.declared.payloads.WritePart.{WritePart}
 use Rattle.tcs_terms.specs.declared.votes.Decision.TheVariants.{Commit}
-use Rattle.tcs_terms.specs.Payloads.{Accesses, IsPayload, same_name}
+use Rattle.tcs_terms.specs.Payloads.{Accesses, same_name}
 use Rattle.tcs_laws.specs.Certification.{Tests}
 use Rattle.tcs_laws.specs.Laws.{ChecksReads}
 use Rattle.tcs_laws.specs.Writing.{writes_name}
 use Rattle.protocol.specs.History.{order_of, payload_in, payloads_of}
 use Rattle.protocol.specs.Invariant.Readings.{IsWrittenBefore}
 use Rattle.protocol.specs.Invariant.Time.{StandsIn}
-use Rattle.protocol.specs.OneCopy.{Copied, before_begin, copy_after}
+use Rattle.protocol.specs.OneCopy.{before_begin, copy_after}
 use Rattle.protocol_laws.proofs.BeforeBegin.{before_begin-front, committed-before}
 use Rattle.protocol_laws.proofs.BegunFirst.{BegunFirst}
 use Rattle.protocol_laws.proofs.CopyAfter.{copy-unwritten, copy-written}
@@ -52,7 +52,7 @@ reading-Told tests h past t p name version value l s =
     let cut : IsFront (before_begin h t) h = before_begin-front h t in
     let at : StandsBetween (ReadValue name version value) (before_begin h t) = stands_between (before_begin h t) (ReadValue name version value) s in
     let whole : h ≡ at.before ++ (ReadValue name version value ∷ (at.after ++ cut.rest)) =
-      cut.is ∙ ap (λ ns. ns ++ cut.rest) at.is ∙ append_assoc at.before (ReadValue name version value ∷ at.after) cut.rest in
+    cut.is ∙ ap (λ ns. ns ++ cut.rest) at.is ∙ append_assoc at.before (ReadValue name version value ∷ at.after) cut.rest in
     go at whole (l.told at.before (at.after ++ cut.rest) name version value whole)
   where
     go : (at : StandsBetween (ReadValue name version value) (before_begin h t)) → h ≡ at.before ++ (ReadValue name version value ∷ (at.after ++ (before_begin-front h t).rest))
@@ -60,9 +60,9 @@ reading-Told tests h past t p name version value l s =
     go at whole (inl n) = Never n.0 n.1
     go at whole (inr w) =
         let decided : StandsIn (Decide w.txn Commit) (before_begin h t) =
-          subst (λ ns. StandsIn (Decide w.txn Commit) ns) (sym at.is) (StandsIn-left at.before (ReadValue name version value ∷ at.after) (Decide w.txn Commit) w.decided) in
+        subst (λ ns. StandsIn (Decide w.txn Commit) ns) (sym at.is) (StandsIn-left at.before (ReadValue name version value ∷ at.after) (Decide w.txn Commit) w.decided) in
         let payload : payload_in h w.txn ≡ Some w.payload =
-          ap (λ ns. payload_in ns w.txn) whole ∙ payload_in-kept at.before (ReadValue name version value ∷ (at.after ++ (before_begin-front h t).rest)) w.txn w.payload w.begun in
+        ap (λ ns. payload_in ns w.txn) whole ∙ payload_in-kept at.before (ReadValue name version value ∷ (at.after ++ (before_begin-front h t).rest)) w.txn w.payload w.begun in
         Written w.txn w.payload (committed-before h t w.txn past l.after l.begun l.order decided) payload w.at_version w.writes
 
 -- an older writer of an object that is read has at most the version that was read
@@ -76,10 +76,10 @@ pub copy-told : (tests : Tests) (h : List Note) (past : List TxId) (t : TxId) (p
     → copy_after (payloads_of h past) r.name ≡ record { version = r.version; value = value }
 copy-told tests h past t p r value l s (Never z e) =
     copy-unwritten r.name (payloads_of h past) (λ x o. false_from_ne_true (writes_name x.writes r.name) (λ w.
-      let bound : x.version ≤ r.version = older-bound tests h past t p r x l s o w in
-      let of : IsPayloadOf h past x = payload-of h past x o in
-      let some : 1 ≤ x.version = (l.legal.payloads of.txn x of.payload).positive in
-      omega (arith, bound, some, z)))
+    let bound : x.version ≤ r.version = older-bound tests h past t p r x l s o w in
+    let of : IsPayloadOf h past x = payload-of h past x o in
+    let some : 1 ≤ x.version = (l.legal.payloads of.txn x of.payload).positive in
+    omega (arith, bound, some, z)))
     ∙ ap (λ n. record { version = n; value = [] }) (sym z) ∙ ap (λ v. record { version = r.version; value = v }) (sym e)
 copy-told tests h past t p r value l s (Written w q there payload version writes) =
     let at : StandsBetween w past = stands_between past w there in
@@ -87,15 +87,15 @@ copy-told tests h past t p r value l s (Written w q there payload version writes
     let wrote : writes_name q.writes r.name ≡ true = any-from (λ (v : WritePart). same_name v.name r.name) q.writes one writes (same_name-self r.name) in
     let found : find (λ (v : WritePart). same_name v.name r.name) q.writes ≡ Some one = write-found q one (l.legal.payloads w q payload) writes in
     let split : payloads_of h past ≡ payloads_of h at.before ++ (q ∷ payloads_of h at.after) =
-      ap (λ ts. payloads_of h ts) at.is ∙ payloads-append h at.before (w ∷ at.after) ∙ ap (λ ps. payloads_of h at.before ++ ps) (payloads-first h w at.after q payload) in
+    ap (λ ts. payloads_of h ts) at.is ∙ payloads-append h at.before (w ∷ at.after) ∙ ap (λ ps. payloads_of h at.before ++ ps) (payloads-first h w at.after q payload) in
     let place : order_of h ≡ at.before ++ (w ∷ (at.after ++ (t ∷ l.after))) =
-      l.order ∙ ap (λ ts. ts ++ (t ∷ l.after)) at.is ∙ append_assoc at.before (w ∷ at.after) (t ∷ l.after) in
+    l.order ∙ ap (λ ts. ts ++ (t ∷ l.after)) at.is ∙ append_assoc at.before (w ∷ at.after) (t ∷ l.after) in
     ap (λ ps. copy_after ps r.name) split
     ∙ copy-written r.name (payloads_of h at.before) q (payloads_of h at.after) one found (λ x o. false_from_ne_true (writes_name x.writes r.name) (λ k.
-      let later : StandsIn x (payloads_of h (at.after ++ (t ∷ l.after))) =
-        subst (λ ps. StandsIn x ps) (sym (payloads-append h at.after (t ∷ l.after))) (StandsIn-left (payloads_of h at.after) (payloads_of h (t ∷ l.after)) x o) in
-      let rise : q.version < x.version = rise-in-order tests h at.before w (at.after ++ (t ∷ l.after)) q x r.name (checks-orders tests l.checks) l.legal place payload later wrote k in
-      let old : StandsIn x (payloads_of h past) = subst (λ ps. StandsIn x ps) (sym split) (StandsIn-right (payloads_of h at.before) (q ∷ payloads_of h at.after) x (inr o)) in
-      let bound : x.version ≤ r.version = older-bound tests h past t p r x l s old k in
-      omega (arith, rise, bound, version)))
+    let later : StandsIn x (payloads_of h (at.after ++ (t ∷ l.after))) =
+    subst (λ ps. StandsIn x ps) (sym (payloads-append h at.after (t ∷ l.after))) (StandsIn-left (payloads_of h at.after) (payloads_of h (t ∷ l.after)) x o) in
+    let rise : q.version < x.version = rise-in-order tests h at.before w (at.after ++ (t ∷ l.after)) q x r.name (checks-orders tests l.checks) l.legal place payload later wrote k in
+    let old : StandsIn x (payloads_of h past) = subst (λ ps. StandsIn x ps) (sym split) (StandsIn-right (payloads_of h at.before) (q ∷ payloads_of h at.after) x (inr o)) in
+    let bound : x.version ≤ r.version = older-bound tests h past t p r x l s old k in
+    omega (arith, rise, bound, version)))
     ∙ ap (λ n. record { version = n; value = value }) version

@@ -1,6 +1,5 @@
 -- A history behind whose decisions such facts stand is legal.
-use Rattle.std.proofs.Common.{◌≡◌, ℕ, true, List, [], ◌∷◌, ◌++◌, Option, Some, None, inl, inr, sym, ◌∙◌, ap, subst, refl, append_assoc, is_some}
-use Rattle.std.specs.List.{cons_option}
+use Rattle.std.proofs.Common.{◌≡◌, ℕ, true, List, ◌∷◌, ◌++◌, Option, Some, None, inl, sym, ◌∙◌, ap, subst, refl, is_some}
 use Rattle.tcs_terms.specs.declared.ids.TxId.{TxId}
 use Rattle.tcs_terms.specs.declared.inputs.Note.{Note}
 use Rattle.tcs_terms.specs.declared.inputs.Note.TheVariants.{Decide}
@@ -15,7 +14,7 @@ use Rattle.protocol_laws.proofs.Fronts.{payload_in-kept}
 use Rattle.protocol_laws.proofs.HistoryKept.{DecisionStands, HistoryHolds}
 use Rattle.protocol_laws.proofs.Orders.{IsOrdered, is_ordered}
 use Rattle.protocol_laws.proofs.Standing.{all-from, StandsIn-right}
-use Rattle.protocol_laws.proofs.WithPast.{all-with_past, StandsBetween, stands_between}
+use Rattle.protocol_laws.proofs.WithPast.{all-with_past}
 use Rattle.protocol_laws.proofs.LegalOrder.{IsPayloadOf, payload-of}
 use Rattle.protocol_laws.proofs.KeepsTime.{decided-begun}
 

@@ -1,5 +1,5 @@
 -- The accepted entries behind a decision, and what they say of the transaction's payload.
-use Rattle.std.proofs.Common.{◌≡◌, ℕ, List, map, Option, Some, None, is_none, ◌⊎◌, inl, inr, sym, ◌∙◌, ap, subst, refl}
+use Rattle.std.proofs.Common.{◌≡◌, ℕ, List, map, Option, Some, None, is_none, ◌⊎◌, inl, inr, sym, ◌∙◌, ap, subst}
 use Rattle.tcs_terms.specs.declared.ids.TxId.{TxId}
 use Rattle.tcs_terms.specs.declared.inputs.Note.TheVariants.{Take, Decide}
 use Rattle.tcs_terms.specs.declared.votes.Decision.{Decision}
@@ -10,7 +10,7 @@ use Rattle.tcs_terms.specs.Preparations.{Preparation, KeepsPayload, is_lost}
 use Rattle.tcs_terms.specs.Setups.{Deployment}
 use Rattle.tcs_terms.specs.Shards.{restricted, shards_of}
 use Rattle.tcs_laws.specs.Certification.{Tests}
-use Rattle.protocol.specs.Cases.{cause_by, cause_of}
+use Rattle.protocol.specs.Cases.{cause_of}
 use Rattle.protocol.specs.History.{payload_in}
 use Rattle.protocol.specs.Invariant.{InvariantHolds}
 use Rattle.protocol.specs.Invariant.Decisions.{IsAcceptedIn, IsDecidedBy}
@@ -42,6 +42,7 @@ decided-entry tests setup t txn decision whole p i past begun d s =
       where
         same : says.payload ≡ whole
         same = let e : payload_in t.now.history a.0.txn ≡ Some whole = ap (λ m. payload_in t.now.history m) a.2.of_txn ∙ begun in cc (e, says.begun)
+
         part : (a.0.payload ≡ restricted setup.shards p.shard says.payload) ⊎ ((a.0.payload ≡ None) × StandsIn (Take a.0.txn) t.now.history) → (a.0.payload ≡ restricted setup.shards p.shard whole) ⊎ ((a.0.payload ≡ None) × StandsIn (Take txn) t.now.history)
         part (inl e) = inl (e ∙ ap (λ m. restricted setup.shards p.shard m) same)
         part (inr q) = inr (q.0, subst (λ m. StandsIn (Take m) t.now.history) a.2.of_txn q.1)
@@ -81,6 +82,7 @@ committed-entry tests setup t txn whole shard i past begun noted s =
       where
         vote : x.entry.vote ≡ votes.Commit
         vote = no_cause x.entry.vote (ap (λ o. cause_of o) (sym x.is) ∙ none)
+
         payload : (x.entry.payload ≡ restricted setup.shards p.shard whole) ⊎ ((x.entry.payload ≡ None) × StandsIn (Take txn) t.now.history) → x.entry.payload ≡ restricted setup.shards p.shard whole
         payload (inl e) = e
         payload (inr q) = absurd (let k : is_none x.entry.payload ≡ is_lost x.entry.vote = x.keeps in cc (k, ap (λ o. is_none o) q.0, ap (λ v. is_lost v) vote))

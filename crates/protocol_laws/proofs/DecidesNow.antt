@@ -1,13 +1,11 @@
 -- The moment at which a decision is noted.
-use Rattle.std.proofs.Common.{◌≡◌, List, [], ◌∷◌, ◌++◌, Some, inl, inr, sym, ◌∙◌, ap, subst, refl}
+use Rattle.std.proofs.Common.{◌≡◌, List, [], ◌∷◌, ◌++◌, inl, inr, sym, ◌∙◌, ap, subst, refl}
 use Rattle.tcs_terms.specs.declared.ids.TxId.{TxId}
 use Rattle.tcs_terms.specs.declared.inputs.Note.{Note}
-use Rattle.tcs_terms.specs.declared.inputs.Note.TheVariants.{Begin, Take, Decide}
+use Rattle.tcs_terms.specs.declared.inputs.Note.TheVariants.{Take, Decide}
 use Rattle.tcs_terms.specs.declared.votes.Decision.{Decision}
-use Rattle.tcs_terms.specs.Payloads.{Accesses, IsPayload}
-use Rattle.tcs_terms.specs.Setups.{Deployment, IsDeployment}
+use Rattle.tcs_terms.specs.Setups.{Deployment}
 use Rattle.tcs_laws.specs.Certification.{Tests}
-use Rattle.tcs_laws.specs.Laws.{IsLawful}
 use Rattle.protocol.specs.History.{payload_in}
 use Rattle.protocol.specs.Invariant.{InvariantHolds}
 use Rattle.protocol.specs.Invariant.Time.{Moment, StandsIn, WasNoted}

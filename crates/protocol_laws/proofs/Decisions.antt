@@ -15,7 +15,7 @@ use Rattle.tcs_laws.specs.Certification.{Tests}
 use Rattle.protocol.specs.Outcomes.{Out, to}
 use Rattle.protocol.specs.Records.{NodeRecord}
 use Rattle.protocol.specs.Table.{with_outcome}
-use Rattle.protocol.specs.World.{Sent, Happening}
+use Rattle.protocol.specs.World.{Happening}
 use Rattle.protocol.specs.Invariant.Answers.{AnswersHold}
 use Rattle.protocol.specs.Invariant.Choice.{ChoiceHolds}
 use Rattle.protocol.specs.Invariant.Configurations.{ConfigurationsHold}

@@ -1,5 +1,5 @@
 -- A part of a case that is complete has an entry that every member of its view held.
-use Rattle.std.proofs.Common.{◌≡◌, ℕ, Bool, true, false, cond, not, List, [], ◌∷◌, ◌++◌, map, Option, Some, None, ◌==◌, inl, inr, sym, ◌∙◌, ap, ap₂, subst, refl, eqb-true}
+use Rattle.std.proofs.Common.{◌≡◌, ℕ, Bool, true, false, not, List, Option, Some, None, ◌==◌, sym, ◌∙◌, ap, subst, refl, eqb-true}
 use Rattle.tcs_terms.specs.declared.ids.TxId.{TxId}
 use Rattle.tcs_terms.specs.declared.inputs.Input.{Input}
 use Rattle.tcs_terms.specs.declared.inputs.Input.TheVariants as inputs
@@ -8,8 +8,8 @@ use Rattle.tcs_terms.specs.Places.{Membership, is_among}
 use Rattle.tcs_terms.specs.Preparations.{Preparation}
 use Rattle.tcs_terms.specs.Setups.{Deployment}
 use Rattle.tcs_laws.specs.Certification.{Tests}
-use Rattle.protocol.specs.Cases.{put_part, all_acknowledge, is_complete_by}
-use Rattle.protocol.specs.Coordination.{case_of, with_part, first_entry, voted, voted_at, acknowledged, add_once}
+use Rattle.protocol.specs.Cases.{all_acknowledge, is_complete_by}
+use Rattle.protocol.specs.Coordination.{case_of, with_part, voted, voted_at, acknowledged}
 use Rattle.protocol.specs.Outcomes.{Out}
 use Rattle.protocol.specs.Records.{Part, Case, NodeRecord}
 use Rattle.protocol.specs.Views.{view_of, followers}
@@ -17,7 +17,7 @@ use Rattle.protocol.specs.Invariant.{InvariantHolds}
 use Rattle.protocol.specs.Invariant.Entries.{ListedAt, HeldAt, PartHolds, CaseHolds}
 use Rattle.protocol.specs.Invariant.Logs.{Held, Listed, Accepted}
 use Rattle.protocol.specs.Invariant.Time.{Moment, StandsIn, IsStored}
-use Rattle.protocol.proofs.Lists.{all-StandsIn, among-StandsIn, StandsIn-append}
+use Rattle.protocol.proofs.Lists.{all-StandsIn, among-StandsIn}
 use Rattle.protocol_laws.specs.Effect.{OpenPart}
 use Rattle.protocol_laws.proofs.Standing.{StandsIn-filter}
 use Rattle.protocol_laws.proofs.Stored.{one_config}

@@ -1,41 +1,30 @@
 -- What a node that acts tells of decisions agrees with decisions that were taken.
-use Rattle.std.proofs.Common.{◌≡◌, ℕ, Bool, true, false, not, List, [], ◌∷◌, map, filter, flat_map, length, Option, Some, None, option_and_then, ◌==◌, inl, inr, sym, subst, refl}
-use Rattle.std.specs.List.{range_with_len}
+use Rattle.std.proofs.Common.{◌≡◌, ℕ, true, List, [], Some, inl, inr, sym, subst, refl}
 use Rattle.tcs_terms.specs.declared.ids.TxId.{TxId}
 use Rattle.tcs_terms.specs.declared.inputs.Input.{Input}
 use Rattle.tcs_terms.specs.declared.inputs.Input.TheVariants as inputs
 use Rattle.tcs_terms.specs.declared.inputs.Note.TheVariants as notes
 use Rattle.tcs_terms.specs.declared.logs.Row.{Row}
-use Rattle.tcs_terms.specs.declared.messages.Message.{Message}
-use Rattle.tcs_terms.specs.declared.messages.Message.TheVariants.{Prepare, PrepareAck, Accept, AcceptAck, NewState, StatePiece, Refused}
-use Rattle.tcs_terms.specs.declared.messages.Outgoing.{Outgoing}
+use Rattle.tcs_terms.specs.declared.messages.Message.TheVariants.{PrepareAck, AcceptAck}
 use Rattle.tcs_terms.specs.declared.votes.Decision.{Decision}
-use Rattle.tcs_terms.specs.Places.{Membership, is_among}
+use Rattle.tcs_terms.specs.Places.{Membership}
 use Rattle.tcs_terms.specs.Preparations.{Preparation}
 use Rattle.tcs_terms.specs.Setups.{Deployment}
-use Rattle.tcs_terms.specs.Shards.{restricted}
 use Rattle.tcs_laws.specs.Certification.{Tests}
-use Rattle.protocol.specs.Cases.{prepare, accept, send_part, send_case}
-use Rattle.protocol.specs.Choices.{when}
+use Rattle.protocol.specs.Cases.{accept, send_case}
 use Rattle.protocol.specs.ClientRules.{next_txn}
-use Rattle.protocol.specs.Coordination.{with_part, first_entry, voted, voted_at, acknowledged, resend, ask_leader, has_part}
+use Rattle.protocol.specs.Coordination.{with_part, first_entry, voted, voted_at, acknowledged, resend, ask_leader}
 use Rattle.protocol.specs.Outcomes.{Out, to}
-use Rattle.protocol.specs.Pieces.{piece_count, piece_of}
 use Rattle.protocol.specs.Probing.{ask_stage}
 use Rattle.protocol.specs.Records.{Part, Case, Coordinator, NodeRecord}
-use Rattle.protocol.specs.ShardRules.{state_to}
-use Rattle.protocol.specs.Views.{view_of, followers}
 use Rattle.protocol.specs.Invariant.Decisions.{IsDecidedBy, RowHolds}
 use Rattle.protocol.specs.Invariant.Time.{Moment, StandsIn}
-use Rattle.protocol_laws.specs.Effect.{AreNotices, Sees, OpenPart, Effect}
-use Rattle.protocol_laws.specs.Effect.AreNotices.{Silent, Notice}
-use Rattle.protocol_laws.specs.Effect.Sees.{Replaces}
+use Rattle.protocol_laws.specs.Effect.{OpenPart, Effect}
 use Rattle.protocol_laws.specs.Effect.Effect.{Rests, Certifies, TakesOver, Nudges, Moves, Lowers, Reads, Asks, AnswersAgain, Appends, Votes, Acknowledges, Changes, Learns, Accepts, Promises, Chooses, Leads}
 use Rattle.protocol_laws.proofs.DecisionsAccepted.{votes_hold, acknowledges_hold}
 use Rattle.protocol_laws.proofs.DecisionsRows.{acting_rows_hold}
 use Rattle.protocol_laws.proofs.DecisionsTaken.{IsReady, goes_on_decided, goes_on_told, Agrees}
 use Rattle.protocol_laws.proofs.TransactionsCases.{voted_case, acknowledged_case}
-use Rattle.protocol_laws.proofs.Standing.{IsMapped, map-StandsIn, IsPiece, flat_map-StandsIn}
 use Rattle.protocol_laws.proofs.TransactionsActing.{IsActing}
 use Rattle.protocol_laws.proofs.TransferPieces.{piece_row}
 use Rattle.protocol_laws.proofs.Sends.{Each, each-one, each-both, each-case, each-accept, each-resend, each-ask_leader, each-sees, each-stage, each-hears, each-state, each-notice}

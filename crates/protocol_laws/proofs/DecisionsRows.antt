@@ -1,5 +1,5 @@
 -- The marks of a node's rows have decisions behind them, after it acted.
-use Rattle.std.proofs.Common.{◌≡◌, ℕ, ◌<◌, Bool, true, false, List, [], ◌∷◌, map, Option, Some, None, ◌==◌, nat_lt, ltb-true, inl, inr, sym, ◌∙◌, ap, subst, refl, arith, eqb-true}
+use Rattle.std.proofs.Common.{◌≡◌, ℕ, Bool, true, false, List, Option, Some, None, ◌==◌, sym, ◌∙◌, ap, subst, refl, eqb-true}
 use Rattle.tcs_terms.specs.declared.ids.TxId.{TxId}
 use Rattle.tcs_terms.specs.declared.inputs.Input.{Input}
 use Rattle.tcs_terms.specs.declared.logs.Mark.{Mark}
@@ -7,7 +7,6 @@ use Rattle.tcs_terms.specs.declared.logs.Mark.TheVariants.{Undecided, Committed,
 use Rattle.tcs_terms.specs.declared.logs.Row.{Row}
 use Rattle.tcs_terms.specs.declared.messages.Message.TheVariants.{DecisionFor, NewState, StatePiece}
 use Rattle.tcs_terms.specs.Logs.{AreRows}
-use Rattle.tcs_terms.specs.Order.{ascends}
 use Rattle.tcs_terms.specs.Places.{Membership}
 use Rattle.tcs_terms.specs.Preparations.{Preparation}
 use Rattle.tcs_terms.specs.Setups.{Deployment}
@@ -26,7 +25,6 @@ use Rattle.protocol_laws.proofs.TransactionsRows.RowCame.{WasThere, WasMarked, W
 use Rattle.protocol_laws.proofs.SameTxn.{same_txn-eq}
 use Rattle.protocol_laws.proofs.Ascending.{ascending-one}
 use Rattle.protocol_laws.proofs.TransactionsActing.{IsActing}
-use Rattle.tcs_terms.proofs.BoolLaws.{left_of, right_of}
 
 -- the row of a slot that holds a transaction is of it
 at_slot_is : (rows : List Row) (slot : ℕ) (txn : TxId) (old : Row) → AreRows rows → has_at rows slot txn ≡ true → StandsIn old rows → old.entry.slot ≡ slot → old.entry.txn ≡ txn

@@ -1,5 +1,5 @@
 -- A case that goes on to its decision: accepted entries stand behind it, and what is told agrees with it.
-use Rattle.std.proofs.Common.{◌≡◌, ℕ, true, List, [], ◌∷◌, ◌++◌, map, flat_map, Some, inl, inr, sym, ◌∙◌, subst, refl, le_refl}
+use Rattle.std.proofs.Common.{◌≡◌, ℕ, true, List, Some, inl, inr, sym, ◌∙◌, subst, refl, le_refl}
 use Rattle.tcs_terms.specs.declared.ids.TxId.{TxId}
 use Rattle.tcs_terms.specs.declared.inputs.Input.{Input}
 use Rattle.tcs_terms.specs.declared.inputs.Note.{Note}
@@ -11,20 +11,19 @@ use Rattle.tcs_terms.specs.declared.messages.Outgoing.{Outgoing}
 use Rattle.tcs_terms.specs.declared.votes.Decision.{Decision}
 use Rattle.tcs_terms.specs.Setups.{Deployment}
 use Rattle.tcs_laws.specs.Certification.{Tests}
-use Rattle.protocol.specs.Cases.{is_complete_by, is_complete, decision_of, commits, tell_members, tell_decision}
-use Rattle.protocol.specs.Outcomes.{Out, to}
+use Rattle.protocol.specs.Cases.{is_complete_by, is_complete, decision_of, commits, tell_decision}
+use Rattle.protocol.specs.Outcomes.{Out}
 use Rattle.protocol.specs.Records.{Part, Case, Coordinator, NodeRecord}
 use Rattle.protocol.specs.Views.{view_of}
 use Rattle.protocol.specs.Invariant.Decisions.{IsDecidedBy, IsBehind, RowHolds}
 use Rattle.protocol.specs.Invariant.Logs.{Accepted}
 use Rattle.protocol.specs.Invariant.Time.{Moment, StandsIn, IsNode, WasNoted}
 use Rattle.protocol.specs.Invariant.Transactions.{CaseFits}
-use Rattle.protocol.proofs.Lists.{all-StandsIn, StandsIn-append}
+use Rattle.protocol.proofs.Lists.{all-StandsIn}
 use Rattle.protocol_laws.specs.Effect.{GoesOn}
 use Rattle.protocol_laws.specs.Effect.GoesOn.{Waiting, Decides}
 use Rattle.protocol_laws.proofs.Lasting.{accepted-on}
 use Rattle.protocol_laws.proofs.DecisionsAccepted.{IsAcceptedPart, complete_part}
-use Rattle.protocol_laws.proofs.Standing.{IsMapped, map-StandsIn, IsPiece, flat_map-StandsIn}
 use Rattle.protocol_laws.proofs.ViewsStored.{view_is, IsView}
 use Rattle.protocol.specs.Invariant.Entries.{CaseHolds}
 use Rattle.protocol_laws.proofs.TransactionsActing.{IsActing}

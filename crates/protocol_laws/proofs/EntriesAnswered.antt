@@ -1,5 +1,5 @@
 -- What is answered, sent to be accepted and acknowledged is listed, or held, at the epoch that is stated.
-use Rattle.std.proofs.Common.{◌≡◌, ℕ, ◌≤◌, true, not, ◌==◌, List, ◌++◌, Option, Some, None, ◌⊎◌, inl, inr, sym, ◌∙◌, ap, subst, subst₂, refl, eqb-true}
+use Rattle.std.proofs.Common.{◌≡◌, ℕ, ◌≤◌, true, ◌==◌, List, ◌++◌, Option, Some, None, ◌⊎◌, inl, inr, sym, ◌∙◌, ap, subst, subst₂, refl, eqb-true}
 use Rattle.tcs_terms.specs.declared.ids.TxId.{TxId}
 use Rattle.tcs_terms.specs.declared.inputs.Event.{Event}
 use Rattle.tcs_terms.specs.declared.inputs.Input.{Input}
@@ -23,7 +23,7 @@ use Rattle.protocol.proofs.Lists.{find-StandsIn}
 use Rattle.protocol_laws.specs.Turn.{Turn, Onward, GrewFrom}
 use Rattle.protocol_laws.proofs.ConfigurationsInputs.{delivered}
 use Rattle.protocol_laws.proofs.Lasting.{is_in-now, held-on, has_initial-on, listed-on}
-use Rattle.protocol_laws.proofs.Standing.{StandsIn-left, StandsIn-right, filter-StandsIn}
+use Rattle.protocol_laws.proofs.Standing.{StandsIn-left, StandsIn-right}
 use Rattle.protocol_laws.proofs.Stored.{one_config, stored-some, member_shard, follower_member}
 use Rattle.protocol_laws.proofs.Came.{Acting, effect_name}
 use Rattle.protocol_laws.proofs.TransferHeld.{leads_it}

@@ -1,5 +1,5 @@
 -- Cases stay well as a node coordinates: as they begin, as a shard votes and acknowledges, and as a view is replaced.
-use Rattle.std.proofs.Common.{◌≡◌, ℕ, Bool, true, false, cond, ◌==◌, List, [], ◌∷◌, ◌++◌, map, find, Option, Some, None, ◌⊎◌, inl, inr, sym, ◌∙◌, ap, ap₂, subst, refl, eqb-true, eq-eqb}
+use Rattle.std.proofs.Common.{◌≡◌, ℕ, Bool, true, false, cond, ◌==◌, List, [], ◌∷◌, ◌++◌, map, find, Option, Some, None, inl, inr, sym, ◌∙◌, ap, ap₂, subst, refl, eqb-true, eq-eqb}
 use Rattle.std.specs.Prelude.{IsTrue}
 use Rattle.tcs_terms.specs.declared.ids.TxId.{TxId}
 use Rattle.tcs_terms.specs.declared.messages.Outgoing.{Outgoing}
@@ -7,7 +7,7 @@ use Rattle.tcs_terms.specs.Logs.{same_txn, txns_differ}
 use Rattle.tcs_terms.specs.Payloads.{Accesses}
 use Rattle.tcs_terms.specs.Places.{Membership, is_among}
 use Rattle.tcs_terms.specs.Preparations.{Preparation}
-use Rattle.protocol.specs.Cases.{asked, new_case, put_part}
+use Rattle.protocol.specs.Cases.{asked, new_case}
 use Rattle.protocol.specs.Coordination.{begins, with_part, first_entry, voted_at, add_once, ask_again, change_view}
 use Rattle.protocol.specs.Invariant.Entries.{HeldAt, PartHolds, CaseHolds}
 use Rattle.protocol.specs.Invariant.Logs.{Listed}

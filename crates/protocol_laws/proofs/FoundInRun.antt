@@ -1,12 +1,10 @@
 -- Where a leader found nothing of a transaction, an event of the run delivered it a PREPARE without payload, and it acted.
-use Rattle.std.proofs.Common.{◌≡◌, ℕ, Bool, true, false, cond, ◌&&◌, ◌==◌, List, [], ◌∷◌, ◌++◌, map, fold, find, length, Option, Some, None, is_none, inl, inr, ◌⊎◌, sym, ◌∙◌, ap, subst, refl, arith, eq-eqb}
+use Rattle.std.proofs.Common.{◌≡◌, ℕ, true, ◌&&◌, ◌==◌, List, [], ◌∷◌, ◌++◌, Some, None, is_none, inl, inr, ◌⊎◌, sym, ◌∙◌, ap, subst, refl, eq-eqb}
 use Rattle.std.proofs.lemmas.Bool.{and_from}
 use Rattle.tcs_terms.specs.declared.ids.TxId.{TxId}
 use Rattle.tcs_terms.specs.declared.inputs.Event.{Event}
-use Rattle.tcs_terms.specs.declared.inputs.Event.TheVariants.{Call, DeliverNumber, Stop}
-use Rattle.tcs_terms.specs.declared.inputs.Handled.TheVariants.{Acted}
+use Rattle.tcs_terms.specs.declared.inputs.Event.TheVariants.{DeliverNumber}
 use Rattle.tcs_terms.specs.declared.inputs.Input.{Input}
-use Rattle.tcs_terms.specs.declared.inputs.Input.TheVariants as inputs
 use Rattle.tcs_terms.specs.declared.inputs.Result1.TheVariants.{Node}
 use Rattle.tcs_terms.specs.declared.messages.Message.{Message}
 use Rattle.tcs_terms.specs.declared.messages.Message.TheVariants.{Prepare}

@@ -1,5 +1,5 @@
 -- A node grows with whatever it does.
-use Rattle.std.proofs.Common.{◌≡◌, ℕ, ◌+◌, ◌<◌, ◌≤◌, List, [], ◌∷◌, ◌++◌, ◌⊎◌, inl, inr, sym, subst, refl, arith}
+use Rattle.std.proofs.Common.{◌≡◌, ℕ, ◌<◌, ◌≤◌, List, [], ◌∷◌, ◌++◌, ◌⊎◌, inl, inr, sym, subst, refl, arith}
 use Rattle.std.proofs.lemmas.List.{map-append}
 use Rattle.tcs_terms.specs.declared.inputs.Input.{Input}
 use Rattle.tcs_terms.specs.declared.inputs.Input.TheVariants as inputs
@@ -16,7 +16,7 @@ use Rattle.protocol.specs.Outcomes.{Out}
 use Rattle.protocol.specs.Records.{NodeRecord}
 use Rattle.protocol.specs.Records.Role.{Fenced}
 use Rattle.protocol.specs.ShardRules.{least, with_rows}
-use Rattle.protocol_laws.specs.Effect.{Effect, Rests, Certifies, TakesOver, Nudges, Moves, Lowers, Reads, Asks, AnswersAgain, Appends, Votes, Acknowledges, Changes, Learns, Keeps, Accepts, Marks, Promises, Chooses, FindsLow, Leads, Follows, Gathers, FollowsPieces}
+use Rattle.protocol_laws.specs.Effect.{Effect, Rests, Certifies, Appends, Accepts, Marks, Promises, Leads, Follows, FollowsPieces}
 use Rattle.protocol_laws.specs.Turn.{Grows}
 use Rattle.protocol_laws.proofs.EntriesKept.{entries_of-marked, accepted-keeps}
 use Rattle.protocol_laws.proofs.Standing.{StandsIn-left}

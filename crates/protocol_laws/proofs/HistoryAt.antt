@@ -9,7 +9,7 @@ use Rattle.tcs_terms.specs.Setups.{Deployment}
 use Rattle.tcs_laws.specs.Certification.{Tests}
 use Rattle.protocol.specs.Invariant.{InvariantHolds}
 use Rattle.protocol.specs.Invariant.Time.{Moment, goes_to, time_after}
-use Rattle.protocol.specs.World.{Happening, first_world}
+use Rattle.protocol.specs.World.{first_world}
 use Rattle.protocol_laws.specs.Runs.{AreEvents, EventStands, HandInPayloads}
 use Rattle.protocol_laws.proofs.CorrectOrder.{HaveFormed}
 use Rattle.protocol_laws.proofs.HistoryKept.{ArePayloads, HistoryHolds, history_kept, payload-begun}
@@ -51,6 +51,6 @@ starts_empty setup = λ txn payload s. absurd s
 pub formed_at : (tests : Tests) (setup : Deployment) (events : List Event) → AreEvents setup events → HandInPayloads events → HaveFormed (time_after tests setup events).now.history
 formed_at tests setup events a p =
     let formed : ArePayloads (time_after tests setup events).now.history =
-            run_induction tests setup EventStands (λ t. ArePayloads t.now.history)
-            (λ t event h turn after stands so_far. payloads_kept tests setup.version t.now event h turn.change stands so_far) (starts_empty setup) events a p in
+    run_induction tests setup EventStands (λ t. ArePayloads t.now.history)
+    (λ t event h turn after stands so_far. payloads_kept tests setup.version t.now event h turn.change stands so_far) (starts_empty setup) events a p in
     λ txn q e. formed (payload-begun (time_after tests setup events).now.history txn q e).0 q (payload-begun (time_after tests setup events).now.history txn q e).1

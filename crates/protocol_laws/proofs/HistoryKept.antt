@@ -1,5 +1,5 @@
 -- What stands behind each decision of a history, and that an event keeps it.
-use Rattle.std.proofs.Common.{◌≡◌, ℕ, Bool, true, false, cond, List, [], ◌∷◌, ◌++◌, Option, Some, None, inl, inr, ◌⊎◌, sym, ◌∙◌, ap, subst, refl, append-nil}
+use Rattle.std.proofs.Common.{◌≡◌, ℕ, Bool, true, false, cond, List, [], ◌∷◌, ◌++◌, Some, None, inl, inr, sym, ◌∙◌, ap, subst, refl, append-nil}
 use Rattle.tcs_terms.specs.declared.ids.TxId.{TxId}
 use Rattle.tcs_terms.specs.declared.inputs.Event.{Event}
 use Rattle.tcs_terms.specs.declared.inputs.Note.{Note}
@@ -15,16 +15,16 @@ use Rattle.tcs_laws.specs.Laws.{IsLawful}
 use Rattle.protocol.specs.History.{begins_with, first_some, payload_in}
 use Rattle.protocol.specs.Invariant.{InvariantHolds}
 use Rattle.protocol.specs.Invariant.Decisions.{IsDecidedBy}
-use Rattle.protocol.specs.Invariant.Time.{Moment, goes_to, worlds, StandsIn}
-use Rattle.protocol.specs.World.{World, Happening}
+use Rattle.protocol.specs.Invariant.Time.{Moment, goes_to, StandsIn}
+use Rattle.protocol.specs.World.{Happening}
 use Rattle.protocol_laws.specs.Turn.{Turn}
 use Rattle.protocol_laws.proofs.Agreement.{agreement}
 use Rattle.protocol_laws.proofs.CausesNow.{NamesClash, clash_now, lost_now}
 use Rattle.protocol_laws.proofs.DecidesNow.{DecidesNow, now-noted, earlier-noted, earlier-payload}
-use Rattle.protocol_laws.proofs.Fronts.{IsFront, Splits, InFirst, InSecond, splits}
+use Rattle.protocol_laws.proofs.Fronts.{Splits, InFirst, InSecond, splits}
 use Rattle.protocol_laws.proofs.LegalNow.{legal_now}
 use Rattle.protocol_laws.proofs.OneNote.{AtMostOne, GoesOnByOne, change-one}
-use Rattle.protocol_laws.proofs.PastKept.{WorldHolds, PastHolds}
+use Rattle.protocol_laws.proofs.PastKept.{PastHolds}
 
 -- whatever a client began is a payload
 abbrev pub ArePayloads : List Note → Type 0
@@ -53,6 +53,7 @@ payload-begun (n ∷ ns) txn payload e = go n e (payload-begun ns txn payload)
     begin : (other : TxId) (p : Accesses) (b : Bool) → first_some (cond b (Some p) None) (payload_in ns txn) ≡ Some payload → (payload_in ns txn ≡ Some payload → (other : TxId) × StandsIn (Begin other payload) ns) → (o : TxId) × StandsIn (Begin o payload) (Begin other p ∷ ns)
     begin other p true e ih = (other, inl (ap (λ q. Begin other q) (cc e)))
     begin other p false e ih = let r : (other : TxId) × StandsIn (Begin other payload) ns = ih e in (r.0, inr r.1)
+
     go : (n : Note) → first_some (begins_with txn n) (payload_in ns txn) ≡ Some payload → (payload_in ns txn ≡ Some payload → (other : TxId) × StandsIn (Begin other payload) ns) → (o : TxId) × StandsIn (Begin o payload) (n ∷ ns)
     go (Begin other p) e ih = begin other p (same_txn other txn) e ih
     go (Take other) e ih = let r : (other : TxId) × StandsIn (Begin other payload) ns = ih e in (r.0, inr r.1)

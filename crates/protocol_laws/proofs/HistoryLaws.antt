@@ -6,18 +6,16 @@ use Rattle.tcs_terms.specs.declared.inputs.Note.{Note}
 use Rattle.tcs_terms.specs.declared.inputs.Note.TheVariants.{Decide}
 use Rattle.tcs_terms.specs.declared.votes.Cause.TheVariants.{Lost}
 use Rattle.tcs_terms.specs.declared.votes.Decision.TheVariants.{Abort}
-use Rattle.tcs_terms.specs.Events.{event_fits}
 use Rattle.tcs_terms.specs.Setups.{Deployment}
 use Rattle.tcs_laws.specs.Certification.{Tests}
 use Rattle.tcs_laws.specs.Laws.{IsLawful}
-use Rattle.protocol.proofs.Lists.{all-StandsIn}
 use Rattle.protocol.proofs.Moments.{time_after-now}
 use Rattle.protocol.specs.CorrectHistory.{agrees, is_legal, keeps_time, names_clashes, names_losses, IsCorrect}
 use Rattle.protocol.specs.Invariant.{InvariantHolds}
 use Rattle.protocol.specs.Invariant.Time.{StandsIn, time_after}
 use Rattle.protocol.specs.FoundNothing.{found_nothing}
 use Rattle.protocol.specs.Run.{run}
-use Rattle.protocol_laws.specs.Runs.{AreEvents, EventStands, HandInPayloads}
+use Rattle.protocol_laws.specs.Runs.{AreEvents, HandInPayloads}
 use Rattle.protocol_laws.proofs.Agreement.{agreement}
 use Rattle.protocol_laws.proofs.AgreesOf.{agree_earlier, agrees-of}
 use Rattle.protocol_laws.proofs.BegunFirst.{begun_first}

@@ -1,14 +1,12 @@
 -- In a shard, whoever committed before passes against a transaction that is decided to commit now for the first time.
-use Rattle.std.proofs.Common.{◌≡◌, ℕ, ◌<◌, Bool, true, false, not, List, [], ◌∷◌, map, Option, Some, None, inl, inr, ◌⊎◌, sym, ◌∙◌, ap, subst, refl, arith, nat_lt, ltb-true, ltb-false}
+use Rattle.std.proofs.Common.{◌≡◌, ℕ, ◌<◌, Bool, true, false, List, Some, sym, ◌∙◌, ap, subst, refl, arith, nat_lt, ltb-true, ltb-false}
 use Rattle.tcs_terms.specs.declared.ids.TxId.{TxId}
 use Rattle.tcs_terms.specs.declared.inputs.Note.{Note}
 use Rattle.tcs_terms.specs.declared.inputs.Note.TheVariants.{Decide}
 use Rattle.tcs_terms.specs.declared.logs.Mark.{Mark}
 use Rattle.tcs_terms.specs.declared.logs.Mark.TheVariants.{Undecided, Committed, Aborted}
-use Rattle.tcs_terms.specs.declared.logs.Row.{Row}
 use Rattle.tcs_terms.specs.declared.votes.Decision.{Decision}
 use Rattle.tcs_terms.specs.declared.votes.Decision.TheVariants.{Commit, Abort}
-use Rattle.tcs_terms.specs.declared.votes.Vote.{Vote}
 use Rattle.tcs_terms.specs.declared.votes.Vote.TheVariants as votes
 use Rattle.tcs_terms.specs.Payloads.{Accesses}
 use Rattle.tcs_terms.specs.Places.{Membership}
@@ -17,11 +15,10 @@ use Rattle.tcs_terms.specs.Setups.{Deployment}
 use Rattle.tcs_laws.specs.Certification.{Tests}
 use Rattle.tcs_laws.specs.Laws.{IsLawful}
 use Rattle.tcs_laws.specs.Votes.{refuses, refuses_by, clashes}
-use Rattle.protocol.specs.Invariant.{InvariantHolds}
 use Rattle.protocol.specs.Invariant.Decisions.{IsAcceptedIn}
 use Rattle.protocol.specs.Invariant.Entries.{Appended, MarkStands}
 use Rattle.protocol.specs.Invariant.Logs.{Listed}
-use Rattle.protocol.specs.Invariant.Time.{Moment, worlds, StandsIn, WasNoted}
+use Rattle.protocol.specs.Invariant.Time.{Moment, StandsIn, WasNoted}
 use Rattle.protocol.specs.Log.{vote_on_part}
 use Rattle.protocol_laws.proofs.AcceptedSays.{before-past}
 use Rattle.protocol_laws.proofs.Agreement.{agreement}

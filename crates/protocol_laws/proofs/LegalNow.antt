@@ -1,21 +1,21 @@
 -- Legality at the moment of a transaction's first decision to commit: it passes against whoever committed before.
-use Rattle.std.proofs.Common.{◌≡◌, ℕ, zero, suc, ◌<◌, Bool, true, ◌&&◌, List, [], ◌∷◌, length, All, Option, Some, None, ◌≤◌, ◌+◌, slice_index_or, sym, ◌∙◌, ap, refl, arith}
+use Rattle.std.proofs.Common.{◌≡◌, ℕ, zero, suc, ◌<◌, true, List, [], ◌∷◌, All, Option, Some, None, ◌≤◌, ◌+◌, ◌∙◌, refl, arith}
 use Rattle.std.proofs.lemmas.Bool.{and_from}
-use Rattle.std.specs.List.{list_all, range_with_len}
+use Rattle.std.specs.List.{range_with_len}
 use Rattle.tcs_terms.specs.declared.ids.TxId.{TxId}
 use Rattle.tcs_terms.specs.declared.inputs.Note.{Note}
 use Rattle.tcs_terms.specs.declared.inputs.Note.TheVariants.{Decide}
 use Rattle.tcs_terms.specs.declared.votes.Decision.TheVariants.{Commit}
 use Rattle.tcs_terms.specs.Payloads.{Accesses, IsPayload}
 use Rattle.tcs_terms.specs.Setups.{Deployment, IsDeployment}
-use Rattle.tcs_terms.specs.Shards.{restricted, shards_of}
-use Rattle.tcs_laws.specs.Certification.{Tests, committed_passes, committed_passes_in, committed_passes_in_each, parts_ok}
+use Rattle.tcs_terms.specs.Shards.{restricted}
+use Rattle.tcs_laws.specs.Certification.{Tests, committed_passes_in, parts_ok}
 use Rattle.tcs_laws.specs.Laws.{IsLawful}
 use Rattle.protocol.specs.History.{payload_in}
 use Rattle.protocol.specs.Invariant.Time.{Moment, StandsIn}
 use Rattle.protocol_laws.proofs.DecidedEntries.{CommittedEntry, committed-entry}
 use Rattle.protocol_laws.proofs.DecidesNow.{DecidesNow, earlier-noted, now-noted}
-use Rattle.protocol_laws.proofs.LegalInShard.{legal_in_shard, IsVotedToCommit}
+use Rattle.protocol_laws.proofs.LegalInShard.{legal_in_shard}
 use Rattle.protocol_laws.proofs.PartsOf.{part-shard}
 use Rattle.protocol_laws.proofs.Standing.{all-from, range-StandsIn}
 use Rattle.tcs_terms.proofs.BoolLaws.{left_of}
@@ -43,5 +43,6 @@ legal_now tests setup t earlier txn other old new deployment lawful d first comm
         legal_in_shard tests setup t earlier txn other shard a.entry b.entry x y lawful d first committed
         (record { accepted = a.accepted; vote = a.vote; has = a.payload ∙ e })
         (record { accepted = b.accepted; vote = b.vote; has = b.payload ∙ f })
+
     each : (shard : ℕ) → StandsIn shard (range_with_len 1 setup.shards) → committed_passes_in tests setup.shards shard (old ∷ []) new ≡ true
     each shard s = and_from (parts_ok tests.committed_ok (restricted setup.shards shard old) (restricted setup.shards shard new)) true (in_shard shard (restricted setup.shards shard old) (restricted setup.shards shard new) s refl refl) refl

@@ -1,8 +1,7 @@
 -- Legality, read at one place of the order: whoever stands there passes the committed test against each before.
-use Rattle.std.proofs.Common.{◌≡◌, ℕ, Bool, true, false, List, [], ◌∷◌, ◌++◌, ◌&&◌, Option, Some, None, ◌⊎◌, inl, inr, sym, ◌∙◌, ap, subst, refl, append_assoc, append-nil}
+use Rattle.std.proofs.Common.{◌≡◌, true, List, [], ◌∷◌, ◌++◌, Option, Some, None, inl, inr, sym, ◌∙◌, ap, subst, refl}
 use Rattle.std.proofs.lemmas.List.Elements.{filter_map-append}
-use Rattle.std.specs.List.{list_all, filter_map, cons_option}
-use Rattle.tcs_terms.proofs.BoolLaws.{left_of, right_of}
+use Rattle.std.specs.List.{cons_option}
 use Rattle.tcs_terms.specs.declared.ids.TxId.{TxId}
 use Rattle.tcs_terms.specs.declared.inputs.Note.{Note}
 use Rattle.tcs_terms.specs.Payloads.{Accesses}
@@ -11,7 +10,6 @@ use Rattle.protocol.proofs.Lists.{all-StandsIn}
 use Rattle.protocol.specs.CorrectHistory.{is_legal, passes_after}
 use Rattle.protocol.specs.History.{payload_in, order_of, payloads_of}
 use Rattle.protocol.specs.Invariant.Time.{StandsIn}
-use Rattle.protocol.specs.Past.{after_past, with_past}
 use Rattle.protocol_laws.proofs.WithPast.{with_past-each}
 
 -- the payloads of two lists, one after the other

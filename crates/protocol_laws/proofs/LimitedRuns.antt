@@ -1,19 +1,18 @@
 -- A run under the limit on its frames' bytes is the run, up to where it ends.
-use Rattle.std.proofs.Common.{◌≡◌, ℕ, ◌+◌, ◌<◌, ◌≤◌, Bool, true, false, List, [], ◌∷◌, ◌++◌, append_assoc, append-nil, length, fold, nat_lt, sym, ◌∙◌, ap, subst, refl, arith}
+use Rattle.std.proofs.Common.{◌≡◌, ℕ, ◌+◌, ◌≤◌, List, [], ◌∷◌, ◌++◌, append_assoc, append-nil, length, fold, nat_lt, sym, ◌∙◌, ap, subst, refl, arith}
 use Rattle.std.proofs.lemmas.Bool.{ltb-true, ltb-false}
 use Rattle.std.proofs.lemmas.List.Sums.{sum_by-append}
 use Rattle.tcs_terms.specs.declared.inputs.Event.{Event}
 use Rattle.tcs_terms.specs.Setups.{Deployment}
 use Rattle.tcs_laws.specs.Certification.{Tests}
-use Rattle.protocol.specs.Choices.{when}
-use Rattle.protocol.specs.Limit.{Progress, Step, frame_bytes, frame_limit, remains, ends, goes_on, limited, limited_step, limited_run}
+use Rattle.protocol.specs.Limit.{Progress, Step, frame_bytes, frame_limit, remains, limited_step, limited_run}
 use Rattle.protocol.specs.Limit.Progress.{Live, Ended}
 use Rattle.protocol.specs.Run.{run, world_after}
-use Rattle.protocol.specs.World.{World, Sent, Happening, first_world, world_step}
+use Rattle.protocol.specs.World.{World, Happening, first_world, world_step}
 use Rattle.protocol_laws.proofs.ChangeOf.{change_of}
 use Rattle.protocol_laws.proofs.Guards.{by_guard}
 use Rattle.protocol_laws.specs.Change.{Change, Passes, Stops, Acts, AtService}
-use Rattle.protocol_laws.specs.Limits.{IsWhole, IsCut, LimitHolds}
+use Rattle.protocol_laws.specs.Limits.{IsWhole, LimitHolds}
 
 -- the messages after an event are those before and those that it sends
 messages_grow : (tests : Tests) (version : ℕ) (w : World) (event : Event) (h : Happening) → Change tests version w event h → h.after.messages ≡ w.messages ++ h.sent

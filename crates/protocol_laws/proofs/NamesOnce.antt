@@ -1,5 +1,5 @@
 -- Where names strictly ascend, each stands once: a search for a name finds the one element that has it.
-use Rattle.std.proofs.Common.{◌≡◌, ℕ, Bool, true, false, cond, List, [], ◌∷◌, ◌&&◌, map, find, Some, inl, inr, nat_eq, eq-eqb, sym, ◌∙◌, ap, subst, refl}
+use Rattle.std.proofs.Common.{◌≡◌, ℕ, Bool, true, false, cond, List, [], ◌∷◌, map, find, Some, inl, inr, nat_eq, eq-eqb, sym, ◌∙◌, ap, subst, refl}
 use Rattle.std.specs.Cmp.Lexicographic.{pointwise, slice_cmp, same_text, nat_list_cmp_total}
 use Rattle.std.specs.Ordering.{is_lt, nat_cmp, ordering_reverse}
 use Rattle.std.specs.declared.cmp.Ordering.{Ordering}
@@ -32,7 +32,7 @@ first_before key x [] y h s = absurd s
 first_before key x (z ∷ zs) y h (inl e) = subst (λ w. name_before (key x) (key w) ≡ true) (sym e) (left_of (name_before (key x) (key z)) (names_ascend (map key (z ∷ zs))) h)
 first_before key x (z ∷ zs) y h (inr s) =
     names_skip (key x) (key z) (key y) (left_of (name_before (key x) (key z)) (names_ascend (map key (z ∷ zs))) h)
-      (first_before key z zs y (right_of (name_before (key x) (key z)) (names_ascend (map key (z ∷ zs))) h) s)
+    (first_before key z zs y (right_of (name_before (key x) (key z)) (names_ascend (map key (z ∷ zs))) h) s)
 
 -- what ascends still does without its first
 rest_ascends : {X : Type 0} (key : X → List ℕ) (x : X) (xs : List X) → names_ascend (map key (x ∷ xs)) ≡ true → names_ascend (map key xs) ≡ true

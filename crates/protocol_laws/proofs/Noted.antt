@@ -1,5 +1,5 @@
 -- The history after an event: as it was, or with what a node that acted notes.
-use Rattle.std.proofs.Common.{◌≡◌, ℕ, ◌++◌, length, inl, inr, ◌∙◌, ap, refl, append-nil}
+use Rattle.std.proofs.Common.{◌≡◌, ◌++◌, length, inl, inr, ◌∙◌, ap, refl, append-nil}
 use Rattle.tcs_terms.specs.declared.inputs.Event.{Event}
 use Rattle.tcs_terms.specs.declared.inputs.Note.{Note}
 use Rattle.tcs_terms.specs.Setups.{Deployment}

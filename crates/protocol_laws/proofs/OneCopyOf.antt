@@ -1,5 +1,5 @@
 -- A legal history with honest reads is that of one copy of the data.
-use Rattle.std.proofs.Common.{◌≡◌, ℕ, suc, ◌+◌, Bool, true, false, not, cond, List, [], ◌∷◌, ◌++◌, ◌&&◌, drop, take, Option, Some, None, is_some, ◌⊎◌, inl, inr, sym, ◌∙◌, ap, subst, refl, arith}
+use Rattle.std.proofs.Common.{◌≡◌, ℕ, suc, ◌+◌, Bool, true, false, not, cond, List, [], ◌∷◌, ◌++◌, take, Option, Some, None, is_some, sym, ◌∙◌, ap, refl, arith}
 use Rattle.std.specs.List.{prefix_len}
 use Rattle.tcs_terms.specs.declared.ids.TxId.{TxId}
 use Rattle.tcs_terms.specs.declared.inputs.Note.{Note}
@@ -10,11 +10,10 @@ use Rattle.tcs_laws.specs.Certification.{Tests}
 use Rattle.tcs_laws.specs.Laws.{ChecksReads}
 use Rattle.protocol.specs.CorrectHistory.{is_legal, passes_after}
 use Rattle.protocol.specs.History.{begins_with, first_some, order_of, payload_in, payloads_of}
-use Rattle.protocol.specs.Invariant.Time.{StandsIn}
 use Rattle.protocol.specs.OneCopy.{before_begin, fits_copy, honest_after, is_honest, is_one_copy}
 use Rattle.protocol_laws.proofs.BegunFirst.{BegunFirst}
 use Rattle.protocol_laws.proofs.CopyFits.{copy-fits}
-use Rattle.protocol_laws.proofs.CopyTells.{Place, TellsWritten}
+use Rattle.protocol_laws.proofs.CopyTells.{TellsWritten}
 use Rattle.protocol_laws.proofs.WithPast.{all-with_past, with_past-each}
 use Rattle.protocol_laws.proofs.WritersRise.{IsLegal}
 use Rattle.protocol_laws.proofs.SameTxn.{same_txn-eq}
@@ -68,4 +67,4 @@ one_copy-of tests h l b told c honest =
         let p : (p : Accesses) × (payload_in h t ≡ Some p) = has_payload tests h before t after l.legal e in
         let begins : BeginsAt h t p.0 = begins-at h t p.0 p.1 in
         copy-fits tests h before t p.0 (record { legal = l; begun = b; told = told; checks = c; after = after; order = e; payload = p.1 })
-          (with_past-each (λ x. honest_after x.0 x.1) h (before_begin h t) (Begin t p.0) begins.after honest begins.is)
+        (with_past-each (λ x. honest_after x.0 x.1) h (before_begin h t) (Begin t p.0) begins.after honest begins.is)

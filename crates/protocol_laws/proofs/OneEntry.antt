@@ -6,12 +6,10 @@ use Rattle.tcs_terms.specs.Preparations.{Preparation}
 use Rattle.tcs_terms.specs.Setups.{Deployment}
 use Rattle.tcs_laws.specs.Certification.{Tests}
 use Rattle.protocol.specs.Invariant.{InvariantHolds}
-use Rattle.protocol.specs.Invariant.Configurations.{HasMembers}
 use Rattle.protocol.specs.Invariant.Decisions.{IsAcceptedIn}
 use Rattle.protocol.specs.Invariant.Logs.{Reached, Held, HasInitial, Listed, Accepted}
-use Rattle.protocol.specs.Invariant.Time.{Moment, StandsIn, IsStored}
+use Rattle.protocol.specs.Invariant.Time.{Moment, StandsIn}
 use Rattle.protocol.specs.Invariant.Transfer.{IsHandedOn}
-use Rattle.protocol.proofs.Lists.{among-StandsIn}
 use Rattle.protocol_laws.proofs.Stored.{one_config, leads_member}
 
 -- who held something in an epoch reached it

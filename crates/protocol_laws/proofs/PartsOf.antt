@@ -1,6 +1,5 @@
 -- The shards of a payload are those in which it has a part.
-use Rattle.std.proofs.Common.{◌≡◌, ℕ, zero, suc, ◌+◌, ◌<◌, ◌≤◌, Bool, true, false, cond, not, ◌&&◌, ◌||◌, ◌==◌, List, [], ◌∷◌, filter, length, Option, Some, None, ◌⊎◌, inl, inr, sym, ◌∙◌, ap, subst, refl, arith, ne_eqb}
-use Rattle.std.proofs.Math.Nat.{eq-or-lt_of_le}
+use Rattle.std.proofs.Common.{◌≡◌, ℕ, suc, ◌≤◌, Bool, true, false, cond, not, ◌&&◌, ◌||◌, ◌==◌, List, [], ◌∷◌, filter, length, Some, None, subst, refl, arith, ne_eqb}
 use Rattle.std.specs.List.{list_any, range_with_len}
 use Rattle.tcs_terms.specs.Payloads.{Accesses}
 use Rattle.tcs_terms.specs.Shards.{lies_in, part_in, restricted, shards_of}
@@ -23,6 +22,7 @@ part-shard n shard p q l h e = go (length p.ranges == 0) (list_any (λ r. lies_i
   where
     all : StandsIn shard (range_with_len 1 n)
     all = StandsIn-range 1 n shard l (omega (arith, h))
+
     go : (a b : Bool) → (length p.ranges == 0) ≡ a → list_any (λ r. lies_in n shard r.name) p.reads ≡ b → cond (not b && a) None (Some (part_in n shard p)) ≡ Some q
         → StandsIn shard (cond a (filter (λ s. list_any (λ r. lies_in n s r.name) p.reads) (range_with_len 1 n)) (range_with_len 1 n))
     go false b f g k = all

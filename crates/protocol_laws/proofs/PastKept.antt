@@ -1,8 +1,7 @@
 -- What holds of every world so far: its history is a front of the present one, its nodes have their names and shards,
 -- and what its rows say of transactions is so.
-use Rattle.std.proofs.Common.{◌≡◌, ℕ, List, [], ◌∷◌, ◌++◌, map, length, Option, Some, None, ◌⊎◌, inl, inr, sym, ◌∙◌, ap, subst, refl}
+use Rattle.std.proofs.Common.{◌≡◌, ℕ, [], map, length, Some, None, ◌⊎◌, inl, inr, sym, ◌∙◌, ap, subst}
 use Rattle.std.specs.List.{range_with_len}
-use Rattle.tcs_terms.specs.declared.ids.TxId.{TxId}
 use Rattle.tcs_terms.specs.declared.inputs.Note.TheVariants.{Take}
 use Rattle.tcs_terms.specs.declared.logs.Row.{Row}
 use Rattle.tcs_terms.specs.declared.votes.Vote.TheVariants.{Lost}
@@ -12,7 +11,7 @@ use Rattle.tcs_terms.specs.Setups.{Deployment}
 use Rattle.tcs_terms.specs.Shards.{restricted}
 use Rattle.protocol.specs.History.{payload_in}
 use Rattle.protocol.specs.Invariant.Configurations.{ConfigurationsHold}
-use Rattle.protocol.specs.Invariant.Time.{Moment, worlds, StandsIn, IsNode}
+use Rattle.protocol.specs.Invariant.Time.{Moment, worlds, StandsIn}
 use Rattle.protocol.specs.Invariant.Transactions.{WasTaken, FoundNothingBy, EntryFits, TransactionsHold}
 use Rattle.protocol.specs.Records.{NodeRecord}
 use Rattle.protocol.specs.World.{World}

@@ -1,7 +1,7 @@
 -- What a well-formed payload read of an object that it writes, and what a certifier that checks reads says of that.
-use Rattle.std.proofs.Common.{◌≡◌, ℕ, ◌<◌, ◌≤◌, Bool, true, false, List, [], ◌∷◌, ◌&&◌, ◌||◌, map, find, nat_lt, Option, Some, None, inl, inr, sym, ◌∙◌, ap, subst, refl, arith, IsTrue, IfSome}
+use Rattle.std.proofs.Common.{◌≡◌, ℕ, ◌<◌, ◌≤◌, Bool, true, false, List, [], ◌∷◌, ◌||◌, find, nat_lt, Some, inl, inr, ap, subst, refl, arith, IfSome}
 use Rattle.std.proofs.lemmas.Bool.{ltb-true}
-use Rattle.std.specs.List.{list_all, list_any}
+use Rattle.std.specs.List.{list_any}
 use Rattle.tcs_terms.specs.declared.payloads.ReadPart.{ReadPart}
 use Rattle.tcs_terms.specs.declared.payloads.WritePart.{WritePart}
 use Rattle.tcs_terms.specs.Payloads.{Accesses, IsPayload, same_name, reads_name}
@@ -9,9 +9,9 @@ use Rattle.tcs_terms.specs.Shards.{seen, version_seen, range_version, in_range_p
 use Rattle.tcs_laws.specs.Certification.{Tests}
 use Rattle.tcs_laws.specs.Laws.{OrdersWrites, ChecksReads}
 use Rattle.tcs_laws.specs.Writing.{writes_name}
-use Rattle.protocol.proofs.Lists.{all-StandsIn, find-StandsIn}
+use Rattle.protocol.proofs.Lists.{all-StandsIn}
 use Rattle.protocol.specs.Invariant.Time.{StandsIn}
-use Rattle.protocol_laws.proofs.NamesOnce.{same_name-eq, same_name-self, find-once}
+use Rattle.protocol_laws.proofs.NamesOnce.{same_name-eq, find-once}
 
 -- an element that passes a test that some element passes
 pub record Passing {X : Type 0} (p : X → Bool) (xs : List X) : Type 0 where

@@ -1,5 +1,5 @@
 -- Whatever a client began is a payload, if it asked to certify payloads.
-use Rattle.std.proofs.Common.{◌≡◌, ℕ, List, [], ◌∷◌, ◌++◌, inl, inr, ◌⊎◌, sym, ap, refl, subst}
+use Rattle.std.proofs.Common.{◌≡◌, ℕ, List, ◌++◌, inl, inr, sym, ap, subst}
 use Rattle.tcs_terms.specs.declared.ids.TxId.{TxId}
 use Rattle.tcs_terms.specs.declared.inputs.Event.{Event}
 use Rattle.tcs_terms.specs.declared.inputs.Event.TheVariants.{Call}
@@ -7,17 +7,16 @@ use Rattle.tcs_terms.specs.declared.inputs.Input.{Input}
 use Rattle.tcs_terms.specs.declared.inputs.Input.TheVariants as inputs
 use Rattle.tcs_terms.specs.declared.inputs.Note.TheVariants.{Begin}
 use Rattle.tcs_terms.specs.declared.messages.Message.{Message}
-use Rattle.tcs_terms.specs.declared.messages.Outgoing.{Outgoing}
 use Rattle.tcs_terms.specs.Payloads.{Accesses, IsPayload}
 use Rattle.tcs_terms.specs.Places.{Membership}
 use Rattle.tcs_laws.specs.Certification.{Tests}
 use Rattle.protocol.specs.Invariant.Time.{StandsIn}
 use Rattle.protocol.specs.Outcomes.{Out}
-use Rattle.protocol.specs.Records.{Case, Coordinator, NodeRecord}
+use Rattle.protocol.specs.Records.{NodeRecord}
 use Rattle.protocol.specs.World.{World, Happening}
 use Rattle.protocol.proofs.Lists.{StandsIn-append}
 use Rattle.protocol_laws.specs.Change.{Change, Passes, Stops, Acts, AtService, Comes, ByCall, ByMessage, Serves, HoldsBack, Tells, Stores}
-use Rattle.protocol_laws.specs.Effect.{GoesOn, Waiting, Decides, Effect, Rests, Certifies, TakesOver, Nudges, Moves, Lowers, Reads, Asks, AnswersAgain, Appends, Votes, Acknowledges, Changes, Learns, Keeps, Accepts, Marks, Promises, Chooses, FindsLow, Leads, Follows, Gathers, FollowsPieces}
+use Rattle.protocol_laws.specs.Effect.{Effect, Rests, Certifies, TakesOver, Reads, Votes, Acknowledges}
 use Rattle.protocol_laws.specs.Runs.{EventStands}
 use Rattle.protocol_laws.proofs.HistoryKept.{ArePayloads}
 use Rattle.protocol_laws.proofs.TransactionsNotes.{goes_on-begins}

@@ -1,5 +1,5 @@
 -- How a message came to be sent, by the moment after an event.
-use Rattle.std.proofs.Common.{◌≡◌, ℕ, ◌⊎◌, inl, inr, sym, ◌∙◌, ap, subst}
+use Rattle.std.proofs.Common.{◌≡◌, ℕ, ◌⊎◌, inl, inr, sym}
 use Rattle.tcs_terms.specs.declared.inputs.Event.{Event}
 use Rattle.tcs_terms.specs.declared.inputs.Input.{Input}
 use Rattle.tcs_terms.specs.declared.messages.Message.{Message}
@@ -9,11 +9,8 @@ use Rattle.protocol.specs.Records.{NodeRecord}
 use Rattle.protocol.specs.World.{Happening}
 use Rattle.protocol.specs.Invariant.Time.{Moment, IsNode, WasSent, goes_to}
 use Rattle.protocol_laws.specs.Change.{Change}
-use Rattle.protocol_laws.specs.Change.Change.{Passes, Stops, Acts, AtService}
-use Rattle.protocol_laws.proofs.After.{put_node-there, sent-back}
 use Rattle.protocol_laws.proofs.ConfigurationsSaid.{Says, says}
-use Rattle.protocol_laws.proofs.ConfigurationsSame.{SameNode, same_node}
-use Rattle.protocol_laws.proofs.ServiceSays.{ServiceSays, service_says}
+use Rattle.protocol_laws.proofs.ServiceSays.{ServiceSays}
 use Rattle.protocol_laws.proofs.Came.{Acting, effect_name, message_by}
 
 -- a node said it, or the service

@@ -12,17 +12,15 @@ use Rattle.tcs_laws.specs.Certification.{Tests}
 use Rattle.protocol.specs.Outcomes.{Out}
 use Rattle.protocol.specs.Records.{NodeRecord}
 use Rattle.protocol.specs.ShardRules.{least}
-use Rattle.protocol.specs.World.{Happening, happens_at}
+use Rattle.protocol.specs.World.{Happening}
 use Rattle.protocol.specs.Invariant.{InvariantHolds}
 use Rattle.protocol.specs.Invariant.Configurations.{ConfigurationsHold, HasMembers}
 use Rattle.protocol.specs.Invariant.Logs.{entries_of, Reached, Held}
 use Rattle.protocol.specs.Invariant.Promises.{PromisesHold, FitsRole, IsMemberAt}
 use Rattle.protocol.specs.Invariant.Time.{Moment, StandsIn, IsNode, IsStored, WasIn, goes_to}
 use Rattle.protocol_laws.specs.Change.{Comes, Change}
-use Rattle.protocol_laws.specs.Change.Change.{Passes, Stops, Acts, AtService}
 use Rattle.protocol_laws.specs.Effect.{Effect}
-use Rattle.protocol_laws.specs.Turn.{Turn, Grows, GrewFrom, Onward}
-use Rattle.protocol_laws.proofs.After.{put_node-back}
+use Rattle.protocol_laws.specs.Turn.{Turn, GrewFrom, Onward}
 use Rattle.protocol_laws.proofs.Lasting.{one_node, reached-back, held-back, grows-state}
 use Rattle.protocol_laws.proofs.OnwardOf.{onward_of}
 use Rattle.protocol_laws.proofs.ConfigurationsHad.{Heard}

@@ -21,7 +21,7 @@ use Rattle.protocol.specs.Invariant.Promises.{FitsRole, IsMemberAt}
 use Rattle.protocol.specs.Invariant.Time.{Moment, StandsIn, IsStored}
 use Rattle.protocol.proofs.Lists.{among-StandsIn}
 use Rattle.protocol_laws.specs.Effect.{MayFollow, Effect}
-use Rattle.protocol_laws.specs.Effect.Effect.{Rests, Certifies, TakesOver, Nudges, Moves, Lowers, Reads, Asks, AnswersAgain, Appends, Votes, Acknowledges, Changes, Learns, Keeps, Accepts, Marks, Promises, Chooses, FindsLow, Leads, Follows, Gathers, FollowsPieces}
+use Rattle.protocol_laws.specs.Effect.Effect.{Rests, Appends, Accepts, Marks, Promises, Leads, Follows, Gathers, FollowsPieces}
 use Rattle.protocol_laws.proofs.ConfigurationsHad.{Heard}
 use Rattle.protocol_laws.proofs.PromisesOrder.{slot_fits}
 use Rattle.protocol_laws.proofs.PromisesRows.{appended-rows, accepted-rows, same_entries-rows}

@@ -1,5 +1,5 @@
 -- Entries in order: slots ascend within their range, transactions are distinct; and which lists stay so.
-use Rattle.std.proofs.Common.{◌≡◌, ℕ, ◌<◌, Bool, true, false, cond, not, List, [], ◌∷◌, ◌++◌, map, filter, ◌==◌, ◌&&◌, ◌||◌, inl, inr, sym, ◌∙◌, ap, subst, refl, arith, eqb-true, eq-eqb, ltb-true, lt-ltb, nat_le, nat_lt}
+use Rattle.std.proofs.Common.{◌≡◌, ◌<◌, Bool, true, false, cond, not, List, [], ◌∷◌, ◌++◌, map, filter, ◌&&◌, ◌||◌, inl, inr, sym, ◌∙◌, ap, subst, refl, arith, lt-ltb, nat_le, nat_lt}
 use Rattle.std.specs.List.{list_all, list_any}
 use Rattle.tcs_terms.specs.declared.ids.TxId.{TxId}
 use Rattle.tcs_terms.specs.declared.limits.TheConstants.{MAX_SLOT}
@@ -7,12 +7,12 @@ use Rattle.tcs_terms.specs.declared.logs.Row.{Row}
 use Rattle.tcs_terms.specs.Logs.{same_txn, txns_differ, AreRows}
 use Rattle.tcs_terms.specs.Order.{ascends}
 use Rattle.tcs_terms.specs.Preparations.{Preparation}
-use Rattle.tcs_terms.proofs.BoolLaws.{both, left_of, right_of, not_false}
+use Rattle.tcs_terms.proofs.BoolLaws.{both, left_of, right_of}
 use Rattle.protocol.specs.Invariant.Logs.{entries_of}
 use Rattle.protocol.specs.Invariant.Time.{StandsIn}
 use Rattle.protocol.proofs.Lists.{StandsIn-append}
 use Rattle.protocol_laws.proofs.Standing.{StandsIn-left, IsMapped, map-StandsIn}
-use Rattle.protocol_laws.proofs.SameTxn.{same_txn-eq, same_txn-self}
+use Rattle.protocol_laws.proofs.SameTxn.{same_txn-eq}
 use Rattle.protocol_laws.proofs.Ascending.{tail-ascends, tail-above, txn_apart}
 
 -- a slot in its range

@@ -1,9 +1,7 @@
 -- The rows that a node gathers may stand in a log, piece by piece.
-use Rattle.std.proofs.Common.{◌≡◌, ℕ, ◌<◌, Bool, true, false, cond, List, [], ◌∷◌, ◌++◌, map, filter, take, drop, Option, Some, None, ◌==◌, ◌&&◌, ◌||◌, ◌⊎◌, inl, inr, sym, subst, refl, arith, eqb-true, ltb-true, nat_le, nat_lt, ◌*◌, ◌-◌, ap}
+use Rattle.std.proofs.Common.{◌≡◌, ℕ, ◌<◌, Bool, true, false, cond, List, [], ◌∷◌, ◌++◌, map, filter, take, drop, Option, Some, None, ◌==◌, ◌&&◌, ◌||◌, ◌⊎◌, inl, inr, sym, subst, refl, arith, ltb-true, nat_le, nat_lt, ◌*◌, ◌-◌, ap}
 use Rattle.std.proofs.lemmas.List.{map-append, append-nil, take-append-drop}
 use Rattle.std.proofs.lemmas.Grind.{flat_map-append}
-use Rattle.std.specs.Cmp.Lexicographic.{pointwise}
-use Rattle.std.specs.Prelude.{nat_eq}
 use Rattle.tcs_terms.specs.declared.limits.TheConstants.{MAX_PIECE_ROWS}
 use Rattle.tcs_terms.specs.declared.logs.Row.{Row}
 use Rattle.tcs_terms.specs.Logs.{txns_differ, AreRows}
@@ -12,7 +10,6 @@ use Rattle.tcs_terms.specs.Places.{Membership}
 use Rattle.tcs_terms.proofs.BoolLaws.{left_of, right_of}
 use Rattle.protocol.specs.Pieces.{piece_of, is_kept, with_piece, rows_of, are_whole, fits, with_one_more, begun, is_gathering_of, takes_piece, gathering_for}
 use Rattle.protocol.specs.Records.{Piece, Gathering}
-use Rattle.protocol.specs.Views.{same_config}
 use Rattle.protocol.specs.Invariant.Logs.{entries_of}
 use Rattle.protocol.specs.Invariant.Time.{StandsIn}
 use Rattle.protocol.proofs.Lists.{StandsIn-append, all-StandsIn}

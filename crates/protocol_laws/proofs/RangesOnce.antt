@@ -1,5 +1,5 @@
 -- Where ranges stand apart, a name lies in one of them at most: a search for a range with the name finds it.
-use Rattle.std.proofs.Common.{◌≡◌, ℕ, Bool, true, false, not, cond, List, [], ◌∷◌, ◌&&◌, find, Some, ◌⊎◌, inl, inr, sym, ◌∙◌, ap, subst, refl}
+use Rattle.std.proofs.Common.{◌≡◌, ℕ, Bool, true, false, not, cond, List, [], ◌∷◌, find, Some, inl, inr, sym, ◌∙◌, ap, subst, refl}
 use Rattle.std.proofs.lemmas.Cmp.{nat_list_cmp_total}
 use Rattle.std.specs.Cmp.Lexicographic.{slice_cmp}
 use Rattle.std.specs.List.{list_all}
@@ -27,7 +27,7 @@ before_not-behind a b c p q = go (slice_cmp nat_cmp c b) refl q
     go Less e k = absurd (cc k)
     go Equal e k =
         let same : slice_cmp nat_cmp a c ≡ slice_cmp nat_cmp a b =
-          nat_list_cmp_total.antisymm a c ∙ ap ordering_reverse (nat_list_cmp_total.congr c b a e) ∙ sym (nat_list_cmp_total.antisymm a b) in
+        nat_list_cmp_total.antisymm a c ∙ ap ordering_reverse (nat_list_cmp_total.congr c b a e) ∙ sym (nat_list_cmp_total.antisymm a b) in
         ap is_lt same ∙ p
     go Greater e k = ap is_lt (nat_list_cmp_total.trans a b c (less_is (slice_cmp nat_cmp a b) p) (nat_list_cmp_total.antisymm b c ∙ ap ordering_reverse e))
 

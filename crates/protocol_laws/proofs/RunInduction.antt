@@ -1,15 +1,14 @@
 -- Induction over the events of a run, with the invariant at hand.
-use Rattle.std.proofs.Common.{◌≡◌, ℕ, Bool, true, false, List, [], ◌∷◌, ◌&&◌, fold, inl, inr, refl}
+use Rattle.std.proofs.Common.{◌≡◌, ℕ, true, List, [], ◌∷◌, fold, inl, inr, refl}
 use Rattle.std.specs.List.{list_all}
 use Rattle.tcs_terms.specs.declared.inputs.Event.{Event}
 use Rattle.tcs_terms.specs.Events.{event_fits}
 use Rattle.tcs_terms.specs.Setups.{Deployment, IsDeployment}
 use Rattle.tcs_laws.specs.Certification.{Tests}
-use Rattle.protocol.proofs.FirstRoles.{start}
 use Rattle.protocol.proofs.Start.{start-InvariantHolds}
 use Rattle.protocol.specs.Invariant.{InvariantHolds}
 use Rattle.protocol.specs.Invariant.Time.{Moment, StandsIn, goes_to, time_after}
-use Rattle.protocol.specs.World.{World, Happening, first_world, world_step}
+use Rattle.protocol.specs.World.{Happening, first_world, world_step}
 use Rattle.protocol_laws.proofs.ChangeOf.{change_of}
 use Rattle.protocol_laws.proofs.Kept.{invariant_kept}
 use Rattle.protocol_laws.specs.Runs.{AreEvents}
@@ -37,7 +36,7 @@ from_moment tests setup Q P d k (e ∷ es) f s t b =
     let turn : Turn tests setup t e h = record { deployment = d; fits = left_of (event_fits setup e) (list_all (event_fits setup) es) f; before = b.holds; change = change_of tests setup.version t.now e } in
     let after : InvariantHolds tests setup (goes_to t h.after) = invariant_kept tests setup t e h turn in
     from_moment tests setup Q P d k es (right_of (event_fits setup e) (list_all (event_fits setup) es) f) (λ x q. s x (inr q)) (goes_to t h.after)
-      (record { holds = after; kept = k t e h turn after (s e (inl refl)) b.kept })
+    (record { holds = after; kept = k t e h turn after (s e (inl refl)) b.kept })
 
 at_start : (tests : Tests) (setup : Deployment) → IsDeployment setup → InvariantHolds tests setup (record { now = first_world setup; before = [] })
 unfolding time_after

@@ -1,5 +1,5 @@
 -- Two worlds that follow each other in a run are joined by one of its events; so of what is lost the run found nothing.
-use Rattle.std.proofs.Common.{◌≡◌, ℕ, Bool, true, ◌&&◌, List, [], ◌∷◌, ◌++◌, fold, length, inl, inr, ◌⊎◌, sym, ◌∙◌, ap, subst, refl}
+use Rattle.std.proofs.Common.{◌≡◌, ℕ, true, List, [], ◌∷◌, ◌++◌, fold, length, inl, inr, ◌⊎◌, sym, ◌∙◌, ap, subst, refl}
 use Rattle.std.specs.List.{list_any}
 use Rattle.std.proofs.lemmas.Bool.{and_from}
 use Rattle.tcs_terms.specs.declared.ids.TxId.{TxId}
@@ -94,7 +94,7 @@ run-found_nothing tests setup events txn shard a noted =
         let fits : event_fits setup b.event ≡ true = all-StandsIn (event_fits setup) events b.event a.fit (subst (λ xs. StandsIn b.event xs) (sym b.is) (StandsIn-right b.past (b.event ∷ b.rest) b.event (inl refl))) in
         let found : FoundBetween f.before f.after txn shard = record { node = f.node; there = f.there; of_shard = f.of_shard; leads = f.leads; nothing = f.nothing; grown = f.grown; grown_there = f.grown_there; grown_name = f.grown_name; still = f.still; entry = f.entry; appended = f.appended; of_txn = f.of_txn; empty = f.empty } in
         let i : IsFound f.before (world_step tests setup.version f.before b.event) txn shard b.event =
-                found_in_change tests setup f.before b.event (world_step tests setup.version f.before b.event) (length setup.nodes) txn shard w.names fits (change_of tests setup.version f.before b.event) (subst (λ x. FoundBetween f.before x txn shard) b.after_is found) in
+        found_in_change tests setup f.before b.event (world_step tests setup.version f.before b.event) (length setup.nodes) txn shard w.names fits (change_of tests setup.version f.before b.event) (subst (λ x. FoundBetween f.before x txn shard) b.after_is found) in
         subst (λ xs. list_any (λ e. finds_nothing_in tests setup.version (run tests setup e.0) txn shard e.1) (with_past xs) ≡ true) (sym b.is)
         (any-with_past (λ e. finds_nothing_in tests setup.version (run tests setup e.0) txn shard e.1) b.past b.event b.rest
         (subst (λ x. finds_nothing_in tests setup.version x txn shard b.event ≡ true) b.before_is

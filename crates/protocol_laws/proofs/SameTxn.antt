@@ -1,5 +1,5 @@
 -- Two transactions that a test takes for one are one, and each is one with itself.
-use Rattle.std.proofs.Common.{◌≡◌, Bool, true, false, ◌==◌, refl, eqb-true, eq-eqb}
+use Rattle.std.proofs.Common.{◌≡◌, true, false, ◌==◌, refl, eqb-true, eq-eqb}
 use Rattle.tcs_terms.specs.declared.ids.TxId.{TxId}
 use Rattle.tcs_terms.specs.Logs.{same_txn}
 use Rattle.tcs_terms.proofs.BoolLaws.{both, left_of, right_of}

@@ -1,5 +1,5 @@
 -- What stands in a list that is joined, mapped, filtered, cut or searched, and what passes a test of its elements.
-use Rattle.std.proofs.Common.{◌≡◌, ℕ, zero, suc, ◌+◌, ◌<◌, ◌≤◌, Bool, true, false, cond, ◌==◌, ◌&&◌, ◌||◌, List, [], ◌∷◌, ◌++◌, map, flat_map, filter, find, take, drop, slice_get, Option, Some, None, ◌⊎◌, inl, inr, sym, ap, subst, refl, arith, eq-eqb, is_some}
+use Rattle.std.proofs.Common.{◌≡◌, ℕ, zero, suc, ◌+◌, ◌<◌, ◌≤◌, Bool, true, false, cond, ◌==◌, ◌||◌, List, [], ◌∷◌, ◌++◌, map, flat_map, filter, find, take, drop, slice_get, Option, Some, None, ◌⊎◌, inl, inr, sym, ap, subst, refl, arith, eq-eqb, is_some}
 use Rattle.std.proofs.Math.Nat.{eq-or-lt_of_le}
 use Rattle.std.specs.List.{list_all, list_any, last_or, range_with_len}
 use Rattle.std.proofs.lemmas.Bool.{and_from, or_left, or_right}

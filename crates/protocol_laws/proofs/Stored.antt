@@ -1,11 +1,11 @@
 -- Stored configurations: one of each shard and epoch, the next of a later one; leaders and followers are members, members of the shard.
-use Rattle.std.proofs.Common.{◌≡◌, ℕ, ◌≤◌, filter, ◌==◌, refl, eq-eqb, zero, suc, ◌+◌, ◌-◌, ◌<◌, true, List, [], ◌∷◌, length, slice_index, Some, inl, inr, sym, ◌∙◌, ap, arith, eqb-true, not}
+use Rattle.std.proofs.Common.{◌≡◌, ℕ, ◌≤◌, filter, ◌==◌, refl, eq-eqb, ◌+◌, ◌-◌, ◌<◌, true, length, slice_index, Some, sym, ◌∙◌, ap, arith, eqb-true, not}
 use Rattle.tcs_terms.specs.Places.{Membership}
 use Rattle.tcs_terms.specs.Setups.{Deployment, has_node, is_node_of}
 use Rattle.protocol.specs.Invariant.Configurations.{ConfigurationsHold}
 use Rattle.protocol.specs.Invariant.Time.{Moment, StandsIn, IsStored, IsNode}
 use Rattle.protocol.specs.Service.{last_epoch, last_config}
-use Rattle.protocol_laws.proofs.Numbered.{numbered-above, numbered-one, AreNumbered, numbered-index, numbered-below}
+use Rattle.protocol_laws.proofs.Numbered.{numbered-above, numbered-one, numbered-index, numbered-below}
 use Rattle.protocol_laws.proofs.Standing.{StandsIn-filter, filter-StandsIn}
 use Rattle.tcs_terms.proofs.BoolLaws.{right_of}
 use Rattle.protocol.specs.Records.{NodeRecord}

@@ -3,7 +3,6 @@ use Rattle.std.proofs.Common.{◌≡◌, ℕ, Bool, List, subst}
 use Rattle.tcs_terms.specs.declared.ids.TxId.{TxId}
 use Rattle.tcs_terms.specs.declared.inputs.Event.{Event}
 use Rattle.tcs_terms.specs.declared.inputs.Note.TheVariants.{Decide}
-use Rattle.tcs_terms.specs.declared.messages.Message.TheVariants.{DecisionFor}
 use Rattle.tcs_terms.specs.declared.votes.Decision.{Decision}
 use Rattle.tcs_terms.specs.Setups.{Deployment}
 use Rattle.tcs_laws.specs.Certification.{Tests}
@@ -33,8 +32,8 @@ behind-decided t shard epoch slot txn commit b = record { decision = b.decision;
 pub run_tells_rightly : (tests : Tests) (setup : Deployment) (events : List Event) → AreEvents setup events → ToldRightly (run tests setup events)
 run_tells_rightly tests setup events a = subst ToldRightly (time_after-now tests setup events) (record {
   decisions = λ from dest epoch slot txn commit s.
-    let d : (decision : Decision) × StandsIn (Decide txn decision) t.now.history × (commits decision ≡ commit) = told_at tests setup events a _ s in
-    record { decision = d.0; noted = d.1; sense = d.2 };
+      let d : (decision : Decision) × StandsIn (Decide txn decision) t.now.history × (commits decision ≡ commit) = told_at tests setup events a _ s in
+      record { decision = d.0; noted = d.1; sense = d.2 };
   outcomes = λ from dest txn decision s. i.decisions.outcomes from dest txn decision (record { sent = s });
   marks = λ node r commit n s e. behind-decided t _ _ _ _ commit (i.decisions.rows node r n s commit e);
   sent = λ from dest c rows r commit s k e. behind-decided t _ _ _ _ commit (i.decisions.state from dest c rows r (record { sent = s }) k commit e);

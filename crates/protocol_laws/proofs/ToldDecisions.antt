@@ -1,37 +1,27 @@
 -- Every DECISION that was sent, to whomever, tells a decision that was taken: it is sent by the event that notes it.
-use Rattle.std.proofs.Common.{◌≡◌, ℕ, Bool, true, false, List, [], ◌∷◌, ◌++◌, map, flat_map, filter, length, Option, Some, None, not, ◌==◌, ◌⊎◌, inl, inr, sym, ap, subst, refl}
-use Rattle.std.specs.List.{range_with_len}
+use Rattle.std.proofs.Common.{◌≡◌, ℕ, List, [], ◌∷◌, ◌++◌, length, inl, inr, sym, subst, refl}
 use Rattle.tcs_terms.specs.declared.ids.TxId.{TxId}
 use Rattle.tcs_terms.specs.declared.inputs.Event.{Event}
 use Rattle.tcs_terms.specs.declared.inputs.Input.{Input}
 use Rattle.tcs_terms.specs.declared.inputs.Note.{Note}
 use Rattle.tcs_terms.specs.declared.inputs.Note.TheVariants as notes
-use Rattle.tcs_terms.specs.declared.logs.Row.{Row}
 use Rattle.tcs_terms.specs.declared.messages.Message.{Message}
 use Rattle.tcs_terms.specs.declared.messages.Message.TheVariants.{Prepare, PrepareAck, Accept, AcceptAck, DecisionFor, Probe, ProbeAck, NewConfig, NewState, ConfigChange, Last, At, Cas, Stored, OutcomeOf, Refused, StatePiece}
 use Rattle.tcs_terms.specs.declared.messages.Outgoing.{Outgoing}
 use Rattle.tcs_terms.specs.declared.votes.Decision.{Decision}
-use Rattle.tcs_terms.specs.Places.{Membership, is_among}
-use Rattle.tcs_terms.specs.Preparations.{Preparation}
+use Rattle.tcs_terms.specs.Places.{Membership}
 use Rattle.tcs_laws.specs.Certification.{Tests}
-use Rattle.protocol.specs.Cases.{accept, commits, decision_of, prepare, send_case, send_part, tell_decision, tell_members}
-use Rattle.protocol.specs.Choices.{when}
+use Rattle.protocol.specs.Cases.{commits, decision_of, send_case}
 use Rattle.protocol.specs.ClientRules.{next_txn}
-use Rattle.protocol.specs.Coordination.{ask_leader, has_part, resend}
-use Rattle.protocol.specs.Invariant.Time.{Moment, StandsIn, goes_to}
-use Rattle.protocol.specs.Outcomes.{Out, to}
-use Rattle.protocol.specs.Pieces.{piece_count, piece_of}
-use Rattle.protocol.specs.Probing.{ask_stage, probe, tell_leader}
-use Rattle.protocol.specs.Records.{Case, Coordinator, NodeRecord, Part, Stage}
-use Rattle.protocol.specs.Records.Stage.{Idle, AskedLast, Probing, AskedLower, CasSent}
-use Rattle.protocol.specs.Service.{tell_nodes}
-use Rattle.protocol.specs.ShardRules.{state_to}
-use Rattle.protocol.specs.Views.{followers, view_of}
+use Rattle.protocol.specs.Coordination.{ask_leader, resend}
+use Rattle.protocol.specs.Invariant.Time.{StandsIn}
+use Rattle.protocol.specs.Outcomes.{Out}
+use Rattle.protocol.specs.Probing.{ask_stage}
+use Rattle.protocol.specs.Records.{Case, Coordinator, NodeRecord}
 use Rattle.protocol.specs.World.{Happening, Sent, World, sent_by}
-use Rattle.protocol.proofs.Lists.{StandsIn-append}
-use Rattle.protocol_laws.specs.Change.{Change, Passes, Stops, Acts, AtService, Serves, HoldsBack, Tells, Stores}
-use Rattle.protocol_laws.specs.Effect.{AreNotices, Silent, Notice, Sees, Replaces, Hears, Waits, ProbesLast, ProbesLower, IsDone, GoesOn, Waiting, Decides, Effect, Rests, Certifies, TakesOver, Nudges, Moves, Lowers, Reads, Asks, AnswersAgain, Appends, Votes, Acknowledges, Changes, Learns, Accepts, Marks, Promises, Chooses, FindsLow, Leads, Follows, Gathers, FollowsPieces}
-use Rattle.protocol_laws.proofs.After.{IsNew, sent-back}
+use Rattle.protocol_laws.specs.Change.{Change, Passes, Stops, Acts, AtService}
+use Rattle.protocol_laws.specs.Effect.{GoesOn, Effect, Rests, Certifies, TakesOver, Nudges, Moves, Lowers, Reads, Asks, AnswersAgain, Appends, Votes, Acknowledges, Changes, Learns, Accepts, Promises, Chooses, Leads}
+use Rattle.protocol_laws.proofs.After.{sent-back}
 use Rattle.protocol_laws.proofs.Standing.{StandsIn-left, StandsIn-right}
 use Rattle.protocol_laws.proofs.ServiceSays.{ServiceSays, service_says}
 use Rattle.protocol_laws.proofs.ServiceSays.ServiceSays.{TellsStored, TellsChange, Refuses}

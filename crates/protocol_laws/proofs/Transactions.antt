@@ -1,5 +1,5 @@
 -- One event keeps what is so of transactions.
-use Rattle.std.proofs.Common.{◌≡◌, ℕ, sym, ap, subst, inl, inr, refl, List}
+use Rattle.std.proofs.Common.{◌≡◌, ℕ, sym, subst, inl, inr, refl, List}
 use Rattle.tcs_terms.specs.declared.ids.TxId.{TxId}
 use Rattle.tcs_terms.specs.declared.inputs.Event.{Event}
 use Rattle.tcs_terms.specs.declared.logs.Row.{Row}
@@ -7,7 +7,7 @@ use Rattle.tcs_terms.specs.declared.messages.Message.{Message}
 use Rattle.tcs_terms.specs.Setups.{Deployment}
 use Rattle.tcs_laws.specs.Certification.{Tests}
 use Rattle.protocol.specs.Records.{Case, NodeRecord}
-use Rattle.protocol.specs.World.{Sent, Happening}
+use Rattle.protocol.specs.World.{Happening}
 use Rattle.protocol.specs.Invariant.Answers.{AnswersHold}
 use Rattle.protocol.specs.Invariant.Choice.{ChoiceHolds}
 use Rattle.protocol.specs.Invariant.Configurations.{ConfigurationsHold}

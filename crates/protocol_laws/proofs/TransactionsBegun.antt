@@ -1,5 +1,5 @@
 -- A transaction that a node begins has begun then, once.
-use Rattle.std.proofs.Common.{◌≡◌, ◌+◌, ◌<◌, Bool, true, false, cond, List, [], ◌∷◌, ◌++◌, filter, length, Some, None, is_some, ◌&&◌, ◌==◌, ◌⊎◌, inl, inr, sym, ◌∙◌, ap, subst, refl, arith, eq-eqb}
+use Rattle.std.proofs.Common.{◌≡◌, ◌+◌, ◌<◌, Bool, true, false, cond, List, [], ◌∷◌, ◌++◌, filter, length, Some, None, is_some, ◌⊎◌, inl, inr, sym, ◌∙◌, ap, subst, refl, arith}
 use Rattle.tcs_terms.specs.declared.ids.TxId.{TxId}
 use Rattle.tcs_terms.specs.declared.inputs.Event.{Event}
 use Rattle.tcs_terms.specs.declared.inputs.Note.{Note}

@@ -1,5 +1,5 @@
 -- The cases of a node fit, after it acted.
-use Rattle.std.proofs.Common.{◌≡◌, ℕ, Bool, true, false, cond, List, [], ◌∷◌, map, length, Option, Some, None, ◌==◌, ◌⊎◌, inl, inr, sym, ◌∙◌, ap, subst, refl, eqb-true}
+use Rattle.std.proofs.Common.{◌≡◌, ℕ, Bool, true, false, cond, List, [], ◌∷◌, map, length, Option, Some, None, ◌==◌, inl, inr, sym, ◌∙◌, ap, subst, refl}
 use Rattle.tcs_terms.specs.declared.ids.TxId.{TxId}
 use Rattle.tcs_terms.specs.declared.inputs.Input.{Input}
 use Rattle.tcs_terms.specs.declared.inputs.Input.TheVariants as inputs
@@ -14,7 +14,7 @@ use Rattle.tcs_terms.specs.Preparations.{Preparation}
 use Rattle.tcs_terms.specs.Setups.{Deployment}
 use Rattle.tcs_terms.specs.Shards.{shards_of}
 use Rattle.tcs_laws.specs.Certification.{Tests}
-use Rattle.protocol.specs.Cases.{asked, new_case, part_of, put_part}
+use Rattle.protocol.specs.Cases.{asked, new_case, part_of}
 use Rattle.protocol.specs.ClientRules.{next_txn}
 use Rattle.protocol.specs.Coordination.{begins, with_part, first_entry, voted, acknowledged, ask_again, change_view}
 use Rattle.protocol.specs.Log.{row_of}

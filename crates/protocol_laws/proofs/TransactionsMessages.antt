@@ -1,42 +1,30 @@
 -- What a node that acts sends says what is so of transactions.
-use Rattle.std.proofs.Common.{◌≡◌, ℕ, ◌+◌, ◌-◌, ◌*◌, Bool, true, false, List, [], ◌∷◌, map, flat_map, drop, Some, ◌==◌, ◌⊎◌, inl, inr, sym, subst, refl}
-use Rattle.std.specs.List.{range_with_len}
+use Rattle.std.proofs.Common.{◌≡◌, ℕ, List, [], ◌∷◌, Some, ◌⊎◌, inl, inr, sym, subst, refl}
 use Rattle.tcs_terms.specs.declared.ids.TxId.{TxId}
 use Rattle.tcs_terms.specs.declared.inputs.Input.{Input}
 use Rattle.tcs_terms.specs.declared.inputs.Input.TheVariants as inputs
-use Rattle.tcs_terms.specs.declared.limits.TheConstants.{MAX_PIECE_ROWS}
 use Rattle.tcs_terms.specs.declared.logs.Row.{Row}
-use Rattle.tcs_terms.specs.declared.messages.Message.{Message}
-use Rattle.tcs_terms.specs.declared.messages.Message.TheVariants.{PrepareAck, Accept, AcceptAck, Probe, ProbeAck, NewConfig, NewState, ConfigChange, Last, At, Cas, Stored, Refused, StatePiece}
+use Rattle.tcs_terms.specs.declared.messages.Message.TheVariants.{PrepareAck, Accept, AcceptAck, ConfigChange, Stored}
 use Rattle.tcs_terms.specs.declared.messages.Outgoing.{Outgoing}
 use Rattle.tcs_terms.specs.Logs.{same_txn}
 use Rattle.tcs_terms.specs.Places.{Membership}
 use Rattle.tcs_terms.specs.Setups.{Deployment}
 use Rattle.tcs_laws.specs.Certification.{Tests}
-use Rattle.protocol.specs.Cases.{accept, decision_of, tell_decision}
-use Rattle.protocol.specs.Choices.{when}
+use Rattle.protocol.specs.Cases.{accept}
 use Rattle.protocol.specs.ClientRules.{next_txn}
-use Rattle.protocol.specs.Coordination.{with_part, first_entry, voted, acknowledged, resend, ask_leader}
+use Rattle.protocol.specs.Coordination.{with_part, first_entry, voted, acknowledged, resend}
 use Rattle.protocol.specs.Log.{undecided}
 use Rattle.protocol.specs.Outcomes.{Out, to}
-use Rattle.protocol.specs.Pieces.{piece_count, piece_of}
-use Rattle.protocol.specs.Probing.{probe, ask_stage, tell_leader, proposed}
-use Rattle.protocol.specs.Records.{Case, Coordinator, Stage, NodeRecord}
-use Rattle.protocol.specs.Records.Stage.{Idle, AskedLast, Probing, AskedLower, CasSent}
-use Rattle.protocol.specs.ShardRules.{state_to}
-use Rattle.protocol.specs.Views.{followers}
+use Rattle.protocol.specs.Probing.{ask_stage}
+use Rattle.protocol.specs.Records.{Case, Coordinator, NodeRecord}
 use Rattle.protocol.specs.Invariant.Time.{Moment, StandsIn, IsStored}
-use Rattle.protocol.specs.Invariant.Transactions.{EntryFits, MessageFits, CaseFits}
+use Rattle.protocol.specs.Invariant.Transactions.{EntryFits, CaseFits}
 use Rattle.protocol.proofs.Lists.{find-StandsIn}
-use Rattle.protocol_laws.specs.Effect.{AreNotices, Sees, Hears, GoesOn, Effect}
-use Rattle.protocol_laws.specs.Effect.AreNotices.{Silent, Notice}
-use Rattle.protocol_laws.specs.Effect.Sees.{Replaces}
-use Rattle.protocol_laws.specs.Effect.Hears.{Waits, ProbesLast, ProbesLower, IsDone}
-use Rattle.protocol_laws.specs.Effect.GoesOn.{Waiting, Decides}
+use Rattle.protocol_laws.specs.Effect.{GoesOn, Effect}
 use Rattle.protocol_laws.specs.Effect.Effect.{Rests, Certifies, TakesOver, Nudges, Moves, Lowers, Asks, AnswersAgain, Appends, Votes, Acknowledges, Changes, Learns, Accepts, Promises, Chooses, Leads}
 use Rattle.protocol_laws.proofs.TransactionsCases.{acting_cases, old_cases_fit, voted_now, voted_case, acknowledged_case}
 use Rattle.protocol_laws.proofs.TransactionsLast.{has_begun-on}
-use Rattle.protocol_laws.proofs.Standing.{IsMapped, map-StandsIn, StandsIn-right, IsPiece, flat_map-StandsIn, take-StandsIn, drop-StandsIn}
+use Rattle.protocol_laws.proofs.Standing.{StandsIn-right}
 use Rattle.protocol_laws.proofs.ViewsStored.{view_is, views_length, IsView}
 use Rattle.protocol_laws.proofs.TransactionsSends.{AreViews, case_sends, resends, leader_asked, decision_told, Fits, accept_fits}
 use Rattle.protocol_laws.proofs.TransactionsActing.{IsActing}

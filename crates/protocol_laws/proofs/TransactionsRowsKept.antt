@@ -9,12 +9,12 @@ use Rattle.tcs_terms.specs.declared.votes.Vote.TheVariants as votes
 use Rattle.tcs_terms.specs.Payloads.{Accesses}
 use Rattle.tcs_terms.specs.Places.{Membership}
 use Rattle.tcs_terms.specs.Preparations.{Preparation, is_lost}
-use Rattle.tcs_terms.specs.Setups.{Deployment, has_node}
+use Rattle.tcs_terms.specs.Setups.{Deployment}
 use Rattle.tcs_laws.specs.Certification.{Tests}
 use Rattle.tcs_laws.specs.Votes.{clashes, vote_by, vote_on}
 use Rattle.protocol.specs.Log.{row_of, new_entry, undecided, vote_on_part}
 use Rattle.protocol.specs.ShardRules.{is_leader}
-use Rattle.protocol.specs.World.{Happening, World, Sent}
+use Rattle.protocol.specs.World.{Happening}
 use Rattle.protocol.specs.Invariant.Time.{Moment, goes_to, StandsIn, WasSent}
 use Rattle.protocol.specs.Invariant.Transactions.{HasBegun, VoteNames, EntryFits, PrepareFits, MessageFits}
 use Rattle.protocol.proofs.Lists.{find-StandsIn}
@@ -26,11 +26,7 @@ use Rattle.protocol_laws.proofs.TransactionsRows.RowCame.{WasThere, WasMarked, W
 use Rattle.protocol_laws.proofs.Came.{effect_name, Acting}
 use Rattle.tcs_terms.specs.declared.inputs.Input.TheVariants as inputs
 use Rattle.tcs_terms.specs.declared.messages.Message.{Message}
-use Rattle.tcs_terms.specs.Events.{event_fits, input_fits}
-use Rattle.protocol_laws.specs.Change.{Comes}
-use Rattle.protocol_laws.specs.Change.Comes.{ByCall, ByMessage}
 use Rattle.protocol_laws.proofs.ConfigurationsInputs.{delivered}
-use Rattle.tcs_terms.proofs.BoolLaws.{right_of}
 
 not_lost : (row : Option Row) → is_lost (vote_by row) ≡ false
 not_lost None = refl

@@ -1,28 +1,27 @@
 -- What a coordinator sends of a case that fits says what is so.
-use Rattle.std.proofs.Common.{◌≡◌, ℕ, Bool, not, List, [], ◌∷◌, ◌++◌, filter, flat_map, find, length, Option, Some, None, is_some, option_and_then, ◌==◌, ◌⊎◌, inl, inr, sym, ◌∙◌, ap, subst, refl}
+use Rattle.std.proofs.Common.{◌≡◌, ℕ, List, find, length, Option, Some, None, is_some, option_and_then, ◌⊎◌, inl, inr, sym, ◌∙◌, ap, subst, refl}
 use Rattle.tcs_terms.specs.declared.ids.TxId.{TxId}
-use Rattle.tcs_terms.specs.declared.messages.Message.TheVariants.{Prepare, Accept, DecisionFor, OutcomeOf}
+use Rattle.tcs_terms.specs.declared.messages.Message.TheVariants.{Prepare, Accept}
 use Rattle.tcs_terms.specs.declared.messages.Outgoing.{Outgoing}
 use Rattle.tcs_terms.specs.declared.votes.Cause.{Cause}
 use Rattle.tcs_terms.specs.declared.votes.Cause.TheVariants as causes
 use Rattle.tcs_terms.specs.declared.votes.Vote.{Vote}
 use Rattle.tcs_terms.specs.declared.votes.Vote.TheVariants as votes
 use Rattle.tcs_terms.specs.Payloads.{Accesses}
-use Rattle.tcs_terms.specs.Places.{Membership, is_among}
+use Rattle.tcs_terms.specs.Places.{Membership}
 use Rattle.tcs_terms.specs.Preparations.{Preparation}
 use Rattle.tcs_terms.specs.Setups.{Deployment}
 use Rattle.tcs_terms.specs.Shards.{restricted}
-use Rattle.protocol.specs.Cases.{prepare, accept, send_part, send_case, cause_by, cause_of, decision_at, decision_by, decision_of, commits, tell_members, tell_decision}
-use Rattle.protocol.specs.Coordination.{resend, ask_leader, has_part}
+use Rattle.protocol.specs.Cases.{send_case, cause_by, cause_of, decision_at, decision_by, decision_of, tell_decision}
+use Rattle.protocol.specs.Coordination.{resend, ask_leader}
 use Rattle.protocol.specs.Outcomes.{to}
 use Rattle.protocol.specs.Records.{Part, Case, Coordinator, NodeRecord}
 use Rattle.protocol.specs.Views.{view_of, followers}
 use Rattle.protocol.specs.Invariant.Configurations.{ConfigurationsHold}
 use Rattle.protocol.specs.Invariant.Time.{Moment, StandsIn, IsNode, IsStored}
-use Rattle.protocol.specs.Invariant.Transactions.{HasBegun, WasTaken, IsPart, VoteNames, CauseNames, DecisionNames, EntryFits, PrepareFits, MessageFits, CaseFits}
-use Rattle.protocol.proofs.Lists.{find-StandsIn, StandsIn-append}
+use Rattle.protocol.specs.Invariant.Transactions.{WasTaken, IsPart, VoteNames, CauseNames, DecisionNames, EntryFits, PrepareFits, MessageFits, CaseFits}
+use Rattle.protocol.proofs.Lists.{find-StandsIn}
 use Rattle.protocol_laws.proofs.TransactionsCases.{CasesFit}
-use Rattle.protocol_laws.proofs.Standing.{IsMapped, map-StandsIn, filter-StandsIn, IsPiece, flat_map-StandsIn}
 use Rattle.protocol_laws.proofs.ViewsStored.{IsView}
 use Rattle.protocol_laws.proofs.Sends.{Each, each-case, each-resend, each-ask_leader, each-decision}
 use Rattle.protocol_laws.proofs.Stored.{member_shard, leads_member, follower_member}

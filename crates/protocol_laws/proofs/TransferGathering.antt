@@ -15,7 +15,7 @@ use Rattle.protocol.specs.Invariant.Logs.{entries_of, Initial}
 use Rattle.protocol.specs.Invariant.Time.{Moment, goes_to, StandsIn, IsNode, WasSent}
 use Rattle.protocol.specs.Invariant.Transfer.{IsKeptOf, IsSentInPieces, TransferHolds}
 use Rattle.protocol.specs.Outcomes.{Out}
-use Rattle.protocol.specs.Pieces.{piece_count, is_kept, with_piece, rows_of, are_whole, fits, with_one_more, is_whole, begun, is_gathering_of, takes_piece, gathering_for, gathered_from}
+use Rattle.protocol.specs.Pieces.{piece_count, is_kept, with_piece, rows_of, are_whole, fits, with_one_more, is_whole, begun, is_gathering_of, takes_piece, gathering_for}
 use Rattle.protocol.specs.Records.{Piece, Gathering, NodeRecord}
 use Rattle.protocol.specs.World.{Happening}
 use Rattle.protocol_laws.specs.Effect.{Effect}

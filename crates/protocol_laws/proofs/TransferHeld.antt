@@ -11,7 +11,7 @@ use Rattle.tcs_terms.specs.Places.{Membership}
 use Rattle.tcs_terms.specs.Preparations.{Preparation}
 use Rattle.tcs_terms.specs.Setups.{Deployment}
 use Rattle.tcs_laws.specs.Certification.{Tests}
-use Rattle.protocol.specs.Invariant.Configurations.{ConfigurationsHold, role_configs, probed_configs, gathered_configs}
+use Rattle.protocol.specs.Invariant.Configurations.{ConfigurationsHold, role_configs}
 use Rattle.protocol.specs.Invariant.Entries.{ListedAt}
 use Rattle.protocol.specs.Invariant.Logs.{entries_of, Held, Listed}
 use Rattle.protocol.specs.Invariant.Promises.{PromisesHold, FitsRole, IsOf}
@@ -29,7 +29,6 @@ use Rattle.protocol_laws.proofs.ConfigurationsInputs.{delivered}
 use Rattle.protocol_laws.proofs.EntriesKept.{entries_of-marked}
 use Rattle.protocol_laws.proofs.Lasting.{HoldsNow, held-back, is_in-now}
 use Rattle.protocol_laws.proofs.PromisesOrder.{filtered-StandsIn}
-use Rattle.protocol_laws.proofs.Standing.{StandsIn-left, StandsIn-right}
 use Rattle.protocol_laws.proofs.Stored.{one_config, stored-some, member_shard}
 use Rattle.protocol_laws.proofs.Came.{node_back, IsOfActing, effect_name, effect_shard}
 use Rattle.protocol_laws.proofs.TransferEnters.{enters, EntersAs}

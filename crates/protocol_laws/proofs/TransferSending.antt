@@ -1,5 +1,5 @@
 -- Why a node sends a message that speaks of entries: each effect's sends.
-use Rattle.std.proofs.Common.{◌≡◌, ℕ, ◌-◌, ◌≤◌, Bool, true, false, cond, ◌==◌, nat_lt, List, [], ◌∷◌, ◌++◌, filter, Option, Some, None, ◌⊎◌, inl, inr, sym, ◌∙◌, ap, subst, refl, eqb-true, arith, ◌<◌, ◌+◌}
+use Rattle.std.proofs.Common.{◌≡◌, ℕ, ◌≤◌, Bool, true, false, cond, ◌==◌, nat_lt, List, [], ◌∷◌, ◌++◌, filter, Option, Some, None, inl, sym, ◌∙◌, ap, subst, refl, eqb-true, arith, ◌<◌, ◌+◌}
 use Rattle.tcs_terms.specs.declared.ids.TxId.{TxId}
 use Rattle.tcs_terms.specs.declared.inputs.Input.{Input}
 use Rattle.tcs_terms.specs.declared.inputs.Input.TheVariants.{Deliver, Nudge}
@@ -11,21 +11,21 @@ use Rattle.tcs_terms.specs.Logs.{same_txn}
 use Rattle.tcs_terms.specs.Places.{Membership}
 use Rattle.tcs_terms.specs.Preparations.{Preparation}
 use Rattle.tcs_laws.specs.Certification.{Tests}
-use Rattle.protocol.specs.Cases.{accept, asked, new_case, send_case, decision_of}
+use Rattle.protocol.specs.Cases.{asked, new_case, send_case, decision_of}
 use Rattle.protocol.specs.Coordination.{first_entry, resend, ask_leader}
 use Rattle.protocol.specs.Invariant.Logs.{entries_of}
 use Rattle.protocol.specs.Invariant.Time.{StandsIn}
 use Rattle.protocol.specs.Log.{row_at, holds_txn, has_at, put_entry, accepted, undecided}
-use Rattle.protocol.specs.Outcomes.{Out, to}
+use Rattle.protocol.specs.Outcomes.{Out}
 use Rattle.protocol.specs.Pieces.{piece_count, piece_of}
-use Rattle.protocol.specs.Probing.{ask_stage, proposed}
+use Rattle.protocol.specs.Probing.{ask_stage}
 use Rattle.protocol.specs.Records.{Part, Case, NodeRecord, Coordinator}
-use Rattle.protocol.specs.ShardRules.{is_leader, is_following, state_to}
+use Rattle.protocol.specs.ShardRules.{is_leader, is_following}
 use Rattle.protocol.specs.Views.{view_of, followers}
-use Rattle.protocol.proofs.Lists.{StandsIn-append, find-StandsIn}
+use Rattle.protocol.proofs.Lists.{find-StandsIn}
 use Rattle.protocol_laws.specs.Effect.{Effect, OpenPart, GoesOn}
-use Rattle.protocol_laws.specs.Effect.Effect.{Rests, Certifies, TakesOver, Nudges, Moves, Lowers, Reads, Asks, AnswersAgain, Appends, Votes, Acknowledges, Changes, Learns, Keeps, Accepts, Marks, Promises, Chooses, FindsLow, Leads, Follows, Gathers, FollowsPieces}
-use Rattle.protocol_laws.proofs.Standing.{StandsIn-right, StandsIn-map, IsPiece, flat_map-StandsIn, IsMapped, map-StandsIn, range-StandsIn}
+use Rattle.protocol_laws.specs.Effect.Effect.{Rests, Certifies, TakesOver, Nudges, Moves, Lowers, Asks, AnswersAgain, Appends, Votes, Acknowledges, Changes, Learns, Accepts, Promises, Chooses, Leads}
+use Rattle.protocol_laws.proofs.Standing.{StandsIn-right, StandsIn-map, IsMapped, map-StandsIn, range-StandsIn}
 use Rattle.protocol_laws.proofs.TransferEnters.{BecomesLeader}
 use Rattle.protocol_laws.proofs.SameTxn.{same_txn-eq}
 use Rattle.protocol_laws.proofs.Sends.{Each, each-one, each-both, each-case, each-accept, each-resend, each-ask_leader, each-sees, each-decision, each-goes_on, each-stage, each-hears, each-state, each-notice}

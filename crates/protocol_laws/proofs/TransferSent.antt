@@ -1,24 +1,20 @@
 -- State that is sent is the initial entries of a configuration: whole, or cut in pieces from one list.
-use Rattle.std.proofs.Common.{◌≡◌, ℕ, ◌≤◌, List, [], ◌∷◌, ◌⊎◌, inl, inr, sym, ◌∙◌, ap, subst, refl}
-use Rattle.std.specs.List.{range_with_len}
+use Rattle.std.proofs.Common.{◌≡◌, ℕ, ◌≤◌, List, ◌⊎◌, inl, inr, sym, ◌∙◌, ap, subst, refl}
 use Rattle.tcs_terms.specs.declared.inputs.Event.{Event}
 use Rattle.tcs_terms.specs.declared.inputs.Input.{Input}
 use Rattle.tcs_terms.specs.declared.logs.Row.{Row}
 use Rattle.tcs_terms.specs.declared.messages.Message.{Message}
-use Rattle.tcs_terms.specs.declared.messages.Message.TheVariants.{Stored, ConfigChange, NewState, StatePiece}
+use Rattle.tcs_terms.specs.declared.messages.Message.TheVariants.{NewState, StatePiece}
 use Rattle.tcs_terms.specs.Places.{Membership}
 use Rattle.tcs_terms.specs.Setups.{Deployment}
 use Rattle.tcs_laws.specs.Certification.{Tests}
 use Rattle.protocol.specs.Invariant.Logs.{entries_of, Initial}
 use Rattle.protocol.specs.Invariant.Time.{Moment, goes_to, WasSent}
 use Rattle.protocol.specs.Invariant.Transfer.{IsSentInPieces}
-use Rattle.protocol.specs.Outcomes.{Out, to}
+use Rattle.protocol.specs.Outcomes.{to}
 use Rattle.protocol.specs.Pieces.{piece_count, piece_of}
 use Rattle.protocol.specs.Records.{NodeRecord}
-use Rattle.protocol.specs.Service.{tell_nodes}
 use Rattle.protocol.specs.World.{Happening}
-use Rattle.protocol_laws.specs.Change.{Serves}
-use Rattle.protocol_laws.specs.Change.Serves.{HoldsBack, Tells, Stores}
 use Rattle.protocol_laws.specs.Turn.{Turn, Onward}
 use Rattle.protocol_laws.proofs.Lasting.{one_node, initial-on}
 use Rattle.protocol_laws.proofs.Came.{message_back, Acting}

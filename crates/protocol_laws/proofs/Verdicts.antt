@@ -1,5 +1,5 @@
 -- What a decision says of the votes behind it.
-use Rattle.std.proofs.Common.{◌≡◌, ℕ, true, false, List, find, Option, Some, None, is_some, sym, ◌∙◌, ap, refl, inl, inr}
+use Rattle.std.proofs.Common.{◌≡◌, ℕ, true, List, find, Option, Some, None, is_some, ◌∙◌, ap, refl}
 use Rattle.tcs_terms.specs.declared.ids.TxId.{TxId}
 use Rattle.tcs_terms.specs.declared.votes.Cause.{Cause}
 use Rattle.tcs_terms.specs.declared.votes.Cause.TheVariants as causes
@@ -36,6 +36,7 @@ commit-each parts p h s = go (find (λ q. is_some (cause_of q.entry)) parts) ref
     none : (q : Part) (o : Option Cause) → cause_of q.entry ≡ o → is_some o ≡ true → decision_at q.shard o ≡ decisions.Commit → cause_of p.entry ≡ None
     none q None e f d = absurd (cc f)
     none q (Some c) e f d = absurd (cc d)
+
     go : (o : Option Part) → find (λ q. is_some (cause_of q.entry)) parts ≡ o → decision_by o ≡ decisions.Commit → cause_of p.entry ≡ None
     go None e d = is-none (cause_of p.entry) (find-none (λ q. is_some (cause_of q.entry)) parts p e s)
     go (Some q) e d = none q (cause_of q.entry) refl (find-StandsIn (λ q. is_some (cause_of q.entry)) parts q e).1 d
@@ -54,6 +55,7 @@ abort-part parts shard cause h = go (find (λ q. is_some (cause_of q.entry)) par
     some : (q : Part) (o : Option Cause) → StandsIn q parts → cause_of q.entry ≡ o → decision_at q.shard o ≡ decisions.Abort shard cause → IsAbortedBy parts shard cause
     some q None s e d = absurd (cc d)
     some q (Some c) s e d = record { part = q; there = s; of_shard = cc d; has = e ∙ ap (λ x. Some x) (cc d) }
+
     go : (o : Option Part) → find (λ q. is_some (cause_of q.entry)) parts ≡ o → decision_by o ≡ decisions.Abort shard cause → IsAbortedBy parts shard cause
     go None e d = absurd (cc d)
     go (Some q) e d = some q (cause_of q.entry) (find-StandsIn (λ q. is_some (cause_of q.entry)) parts q e).0 refl d

@@ -1,14 +1,13 @@
 -- The views of a node: stored configurations, one for each shard.
-use Rattle.std.proofs.Common.{◌≡◌, ℕ, suc, true, List, [], ◌∷◌, ◌++◌, map, length, Some, ◌==◌, sym, ◌∙◌, ap, refl, eqb-true}
+use Rattle.std.proofs.Common.{◌≡◌, ℕ, suc, true, List, [], ◌∷◌, map, length, Some, ◌==◌, sym, ◌∙◌, ap, refl, eqb-true}
 use Rattle.std.proofs.lemmas.List.FromFn.{length-range_with_len}
 use Rattle.tcs_terms.specs.Places.{Membership}
 use Rattle.tcs_terms.specs.Setups.{Deployment}
 use Rattle.protocol.specs.Records.{NodeRecord}
 use Rattle.protocol.specs.Views.{view_of}
-use Rattle.protocol.specs.Invariant.Configurations.{ConfigurationsHold, role_configs, probed_configs, gathered_configs}
+use Rattle.protocol.specs.Invariant.Configurations.{ConfigurationsHold}
 use Rattle.protocol.specs.Invariant.Time.{Moment, StandsIn, IsNode, IsStored}
 use Rattle.protocol.proofs.Lists.{find-StandsIn}
-use Rattle.protocol_laws.proofs.Standing.{StandsIn-left}
 use Rattle.protocol_laws.proofs.ConfigurationsHad.{had}
 
 -- the view of a shard is a stored configuration of it

@@ -1,5 +1,5 @@
 -- What a vote says of the rows before it.
-use Rattle.std.proofs.Common.{◌≡◌, Bool, true, false, not, List, find, Option, Some, None, sym, ◌∙◌, ap, subst, refl}
+use Rattle.std.proofs.Common.{◌≡◌, Bool, true, false, not, List, find, Option, Some, None, ap, refl}
 use Rattle.tcs_terms.specs.declared.ids.TxId.{TxId}
 use Rattle.tcs_terms.specs.declared.logs.Mark.{Mark}
 use Rattle.tcs_terms.specs.declared.logs.Mark.TheVariants.{Undecided, Committed, Aborted}
@@ -9,7 +9,7 @@ use Rattle.tcs_terms.specs.declared.votes.Vote.TheVariants as votes
 use Rattle.tcs_terms.specs.Payloads.{Accesses}
 use Rattle.tcs_laws.specs.Certification.{Tests}
 use Rattle.tcs_laws.specs.Laws.{IsLawful}
-use Rattle.tcs_laws.specs.Votes.{refuses, refuses_by, clashes, vote_by, vote_on}
+use Rattle.tcs_laws.specs.Votes.{refuses, clashes, vote_by, vote_on}
 use Rattle.protocol.specs.Invariant.Time.{StandsIn}
 use Rattle.protocol.specs.Log.{vote_on_part}
 use Rattle.protocol.proofs.Lists.{find-StandsIn}

@@ -1,9 +1,7 @@
 -- Tests of each element of a list with those before it, and an element between others.
-use Rattle.std.proofs.Common.{◌≡◌, Bool, true, ◌==◌, List, [], ◌∷◌, ◌++◌, inl, inr, sym, ap, subst, refl, append_assoc, append-nil, eq-eqb}
+use Rattle.std.proofs.Common.{◌≡◌, Bool, true, List, [], ◌∷◌, ◌++◌, inl, inr, sym, ap, subst, refl, append_assoc, append-nil}
 use Rattle.std.specs.List.{list_all, list_any}
 use Rattle.std.proofs.lemmas.Bool.{and_from, or_left, or_right}
-use Rattle.tcs_terms.specs.declared.ids.TxId.{TxId}
-use Rattle.tcs_terms.specs.Logs.{same_txn}
 use Rattle.protocol.specs.Past.{after_past, with_past}
 use Rattle.protocol.specs.Invariant.Time.{StandsIn}
 use Rattle.tcs_terms.proofs.BoolLaws.{left_of, right_of}

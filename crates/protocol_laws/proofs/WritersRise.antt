@@ -1,5 +1,5 @@
 -- Commit versions of the committed transactions that write one object rise along the order.
-use Rattle.std.proofs.Common.{◌≡◌, ℕ, ◌<◌, true, List, [], ◌∷◌, ◌++◌, Option, Some, inl, inr, sym, ◌∙◌, ap, subst, refl, append_assoc}
+use Rattle.std.proofs.Common.{◌≡◌, ℕ, ◌<◌, true, List, ◌∷◌, ◌++◌, Some, inl, sym, ◌∙◌, ap, subst, refl, append_assoc}
 use Rattle.tcs_terms.specs.declared.ids.TxId.{TxId}
 use Rattle.tcs_terms.specs.declared.inputs.Note.{Note}
 use Rattle.tcs_terms.specs.Payloads.{Accesses, IsPayload}
@@ -11,7 +11,7 @@ use Rattle.protocol.specs.History.{order_of, payload_in, payloads_of}
 use Rattle.protocol.specs.Invariant.Time.{StandsIn}
 use Rattle.protocol_laws.proofs.LegalOrder.{IsPayloadOf, legal-each, payloads-append, payloads-first, payload-of}
 use Rattle.protocol_laws.proofs.PayloadReads.{writers-rise}
-use Rattle.protocol_laws.proofs.Standing.{StandsIn-left, StandsIn-right}
+use Rattle.protocol_laws.proofs.Standing.{StandsIn-right}
 
 -- a legal history whose transactions hand in payloads
 pub record IsLegal (tests : Tests) (h : List Note) : Type 0 where
@@ -25,8 +25,8 @@ pub rise-in-order : (tests : Tests) (h : List Note) (front : List TxId) (a : TxI
 rise-in-order tests h front a rest old new name o l e p s x y =
     let of : IsPayloadOf h rest new = payload-of h rest new s in
     let place : order_of h ≡ (front ++ (a ∷ of.before)) ++ (of.txn ∷ of.after) =
-      e ∙ ap (λ ts. front ++ (a ∷ ts)) of.split ∙ sym (append_assoc front (a ∷ of.before) (of.txn ∷ of.after)) in
+    e ∙ ap (λ ts. front ++ (a ∷ ts)) of.split ∙ sym (append_assoc front (a ∷ of.before) (of.txn ∷ of.after)) in
     let there : StandsIn old (payloads_of h (front ++ (a ∷ of.before))) =
-      subst (λ ps. StandsIn old ps) (sym (payloads-append h front (a ∷ of.before)))
-      (StandsIn-right (payloads_of h front) (payloads_of h (a ∷ of.before)) old (subst (λ ps. StandsIn old ps) (sym (payloads-first h a of.before old p)) (inl refl))) in
+    subst (λ ps. StandsIn old ps) (sym (payloads-append h front (a ∷ of.before)))
+    (StandsIn-right (payloads_of h front) (payloads_of h (a ∷ of.before)) old (subst (λ ps. StandsIn old ps) (sym (payloads-first h a of.before old p)) (inl refl))) in
     writers-rise tests old new name o (l.payloads of.txn new of.payload) (legal-each tests h (front ++ (a ∷ of.before)) of.txn of.after old new l.legal place of.payload there) x y

@@ -17,8 +17,8 @@ use Rattle.tcs_terms.specs.Preparations.{Preparation}
 use Rattle.tcs_terms.specs.Shards.{shards_of, lies_in}
 use Rattle.tcs_laws.specs.Certification.{Tests}
 use Rattle.protocol.specs.Outcomes.{Out, to, tells, acts}
-use Rattle.protocol.specs.Records.{Part, Case, Coordinator, Role, Stage, Piece, Gathering, NodeRecord}
-use Rattle.protocol.specs.Records.Role.{Fenced, Leader, Follower}
+use Rattle.protocol.specs.Records.{Part, Case, Coordinator, Stage, Gathering, NodeRecord}
+use Rattle.protocol.specs.Records.Role.{Fenced, Leader}
 use Rattle.protocol.specs.Records.Stage.{Idle, AskedLast, Probing, AskedLower, CasSent}
 use Rattle.protocol.specs.Views.{view_of, view_epoch, followers, is_follower}
 use Rattle.protocol.specs.Log.{row_of, is_full, new_entry, undecided, has_at, is_taken, accepted, marked, mark_of}
@@ -86,11 +86,11 @@ pub data Effect (tests : Tests) (version : ℕ) (node : NodeRecord) : Input → 
   -- what clients ask
   Certifies : (payload : Accesses) → node.next ≤ MAX_SEQUENCE → (case : Case) → case ≡ new_case (shards_of (length node.coordinator.views) payload) (Some payload)
       → Effect tests version node (inputs.Certify payload)
-        (tells (record node { next = node.next + 1; coordinator = begins node.coordinator (next_txn node) case }) (send_case node.coordinator.views (next_txn node) case) (notes.Begin (next_txn node) payload ∷ []))
+      (tells (record node { next = node.next + 1; coordinator = begins node.coordinator (next_txn node) case }) (send_case node.coordinator.views (next_txn node) case) (notes.Begin (next_txn node) payload ∷ []))
   TakesOver : (txn : TxId) (row : Row) → row_of node.rows txn ≡ Some row → is_undecided row.mark ≡ true → case_of node.coordinator txn ≡ None → may_exist node txn ≡ true
       → (case : Case) → case ≡ new_case row.entry.shards None
       → Effect tests version node (inputs.Take txn)
-        (tells (with_coordinator node (begins node.coordinator txn case)) (send_case node.coordinator.views txn case) (notes.Take txn ∷ []))
+      (tells (with_coordinator node (begins node.coordinator txn case)) (send_case node.coordinator.views txn case) (notes.Take txn ∷ []))
   Nudges : Effect tests version node inputs.Nudge (acts node (resend node.coordinator ++ ask_stage node.prober))
   Moves : (shard : ℕ) (want : List ℕ) → Effect tests version node (inputs.Move shard want) (acts (with_stage node (AskedLast shard want)) (to 0 (Last shard) ∷ []))
   Lowers : (shard : ℕ) (want : List ℕ) (epoch : ℕ) (probed : Membership) (low : List ℕ) → node.prober ≡ Probing shard want epoch probed low → 0 < length low → 1 < probed.epoch
@@ -106,7 +106,7 @@ pub data Effect (tests : Tests) (version : ℕ) (node : NodeRecord) : Input → 
       → is_leader node.role ≡ true → node.state ≡ epoch → is_among shards node.shard ≡ true → row_of node.rows txn ≡ None → is_full node.rows ≡ false
       → (entry : Preparation) → entry ≡ new_entry tests node.rows txn shards part
       → Effect tests version node (inputs.Deliver from (Prepare epoch txn shards part))
-        (acts (with_rows node (node.rows ++ undecided entry ∷ [])) (to from (PrepareAck node.shard epoch entry) ∷ []))
+      (acts (with_rows node (node.rows ++ undecided entry ∷ [])) (to from (PrepareAck node.shard epoch entry) ∷ []))
   -- the coordinator
   Votes : (from shard epoch : ℕ) (entry : Preparation) (case : Case) (part : Part) (view : Membership) → OpenPart node.coordinator entry.txn shard case part view
       → view.epoch ≡ epoch → view.leader ≡ from → fits_slot part.entry entry.slot ≡ true
@@ -126,23 +126,23 @@ pub data Effect (tests : Tests) (version : ℕ) (node : NodeRecord) : Input → 
   -- the follower, and whoever has the row
   Accepts : (from epoch : ℕ) (entry : Preparation) → is_following node.role ≡ true → node.state ≡ epoch → is_taken node.rows entry ≡ false
       → Effect tests version node (inputs.Deliver from (Accept epoch entry))
-        (acts (with_rows node (accepted node.rows entry)) (to from (AcceptAck node.shard epoch entry.slot entry.txn) ∷ []))
+      (acts (with_rows node (accepted node.rows entry)) (to from (AcceptAck node.shard epoch entry.slot entry.txn) ∷ []))
   Marks : (from epoch slot : ℕ) (txn : TxId) (commit : Bool) → epoch ≤ node.state → has_at node.rows slot txn ≡ true
       → Effect tests version node (inputs.Deliver from (DecisionFor epoch slot txn commit)) (acts (with_rows node (marked node.rows slot (mark_of commit))) [])
   -- moving a shard
   Promises : (from epoch : ℕ) → least node ≤ epoch
       → Effect tests version node (inputs.Deliver from (Probe epoch))
-        (acts (record node { role = Fenced; promised = epoch; gathering = gathered_from epoch node.gathering }) (to from (ProbeAck epoch node.state) ∷ []))
+      (acts (record node { role = Fenced; promised = epoch; gathering = gathered_from epoch node.gathering }) (to from (ProbeAck epoch node.state) ∷ []))
   Chooses : (from state shard : ℕ) (want : List ℕ) (epoch : ℕ) (probed : Membership) (low : List ℕ) → node.prober ≡ Probing shard want epoch probed low
       → is_among probed.members from ≡ true → probed.epoch ≤ state
       → Effect tests version node (inputs.Deliver from (ProbeAck epoch state))
-        (acts (with_stage node (CasSent (proposed node.name shard epoch want from))) (to 0 (Cas (proposed node.name shard epoch want from)) ∷ []))
+      (acts (with_stage node (CasSent (proposed node.name shard epoch want from))) (to 0 (Cas (proposed node.name shard epoch want from)) ∷ []))
   FindsLow : (from state shard : ℕ) (want : List ℕ) (epoch : ℕ) (probed : Membership) (low : List ℕ) → node.prober ≡ Probing shard want epoch probed low
       → is_among probed.members from ≡ true → state < probed.epoch
       → Effect tests version node (inputs.Deliver from (ProbeAck epoch state)) (acts (with_stage node (Probing shard want epoch probed (add_once low from))) [])
   Leads : (from : ℕ) (config : Membership) → config.shard ≡ node.shard → node.role ≡ Fenced → node.promised ≡ config.epoch → config.leader ≡ node.name
       → Effect tests version node (inputs.Deliver from (NewConfig config))
-        (acts (record node { role = Leader config; state = config.epoch }) (flat_map (state_to version config node.rows) (followers config)))
+      (acts (record node { role = Leader config; state = config.epoch }) (flat_map (state_to version config node.rows) (followers config)))
   Follows : (from : ℕ) (config : Membership) (rows : List Row) → version ≡ 1 → MayFollow node config
       → Effect tests version node (inputs.Deliver from (NewState config rows)) (acts (follows node config rows (gathered_from config.epoch node.gathering)) [])
   Gathers : (from : ℕ) (config : Membership) (number pieces : ℕ) (rows : List Row) (gathering : Gathering) → version ≡ 2 → MayFollow node config

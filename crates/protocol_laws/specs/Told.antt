@@ -10,7 +10,7 @@ use Rattle.protocol.specs.Cases.{commits}
 use Rattle.protocol.specs.Invariant.Time.{StandsIn}
 use Rattle.protocol.specs.Log.{mark_of}
 use Rattle.protocol.specs.Records.{NodeRecord}
-use Rattle.protocol.specs.World.{Sent, World}
+use Rattle.protocol.specs.World.{World}
 
 -- a decision of that sense was taken
 pub record WasDecided (w : World) (txn : TxId) (commit : Bool) : Type 0 where
