@@ -22,9 +22,8 @@ use Rattle.protocol.specs.OneCopy.{Copied, before_begin, copy_after, fits_copy, 
 use Rattle.protocol_laws.proofs.CopyTells.{Place, copy-told, reading-Told}
 use Rattle.protocol_laws.proofs.LegalOrder.{legal-each}
 use Rattle.protocol_laws.proofs.NamesOnce.{same_name-eq, same_name-self}
-use Rattle.protocol_laws.proofs.PayloadReads.{Passing, any-Passing}
 use Rattle.protocol_laws.proofs.RangesOnce.{find-range}
-use Rattle.protocol_laws.proofs.Standing.{all-from, any-from}
+use Rattle.protocol_laws.proofs.Standing.{all-from, any-from, Passing, any-Passing}
 
 -- a reading of an object at a version, with the value that it told
 record IsReading (name : List ℕ) (version : ℕ) (n : Note) : Type 0 where

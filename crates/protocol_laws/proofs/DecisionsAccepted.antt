@@ -1,4 +1,4 @@
--- A part of a case that is complete has an entry that every member of its view held.
+-- A part of a complete case has an entry that every member of its view held, and cases hold as they go on.
 use Rattle.std.proofs.Common.{◌≡◌, ℕ, Bool, true, false, not, List, Option, Some, None, ◌==◌, sym, ◌∙◌, ap, subst, refl, eqb-true}
 use Rattle.tcs_terms.specs.declared.ids.TxId.{TxId}
 use Rattle.tcs_terms.specs.declared.inputs.Input.{Input}
@@ -23,9 +23,9 @@ use Rattle.protocol_laws.proofs.Standing.{StandsIn-filter}
 use Rattle.protocol_laws.proofs.Stored.{one_config}
 use Rattle.protocol_laws.proofs.ViewsStored.{view_is, IsView}
 use Rattle.protocol_laws.proofs.CaseParts.{part_is, IsPartOf}
-use Rattle.protocol_laws.proofs.EntriesCases.{with_part-holds, voted-holds, acknowledged-holds}
 use Rattle.protocol_laws.proofs.TransactionsActing.{IsActing}
 use Rattle.protocol_laws.proofs.ByTransaction.{lookup-StandsIn}
+use Rattle.protocol_laws.proofs.EntriesCases.{voted_case-holds, acknowledged_case-holds, CasesHold}
 
 -- whoever acknowledged a listed entry held that entry; where all followers did, it is accepted
 all_held : (tests : Tests) (setup : Deployment) (t : Moment) (txn : TxId) (v : Membership) (entry : Preparation) (acks : List ℕ) → InvariantHolds tests setup t → IsStored t v → Listed t v entry
@@ -70,31 +70,22 @@ complete_part tests setup t views txn p i stored = go (view_of views p.shard) p.
       of_txn = k.1;
     }
 
--- the case of a node, as it was
-old_case : (tests : Tests) (setup : Deployment) (t u : Moment) (node : NodeRecord) (input : Input) (out : Out NodeRecord) (txn : TxId) (case : Case) → IsActing tests setup t u node input out → case_of node.coordinator txn ≡ Some case
-    → CaseHolds t node.coordinator.views txn case
-old_case tests setup t u node input out txn case a e = a.before.entries.cases node txn case a.is (lookup-StandsIn txn node.coordinator.cases case e)
+-- the cases of a node, as they were
+old_cases : (tests : Tests) (setup : Deployment) (t u : Moment) (node : NodeRecord) (input : Input) (out : Out NodeRecord) → IsActing tests setup t u node input out → CasesHold t node.coordinator
+old_cases tests setup t u node input out a = record { each = λ txn case s. a.before.entries.cases node txn case a.is s; one = a.before.entries.one_case node a.is }
 
 pub votes_hold : (tests : Tests) (setup : Deployment) (t u : Moment) (node : NodeRecord) (input : Input) (out : Out NodeRecord) (from shard epoch : ℕ) (entry : Preparation) (case : Case) (part : Part) (view : Membership)
     → IsActing tests setup t u node input out → input ≡ inputs.Deliver from (PrepareAck shard epoch entry) → OpenPart node.coordinator entry.txn shard case part view → view.epoch ≡ epoch
     → CaseHolds t node.coordinator.views entry.txn (with_part case (voted part entry))
 votes_hold tests setup t u node input out from shard epoch entry case part view a e o at =
-    let is : IsPartOf case.parts shard part = part_is case.parts shard part o.has in
-    let c : CaseHolds t node.coordinator.views entry.txn case = old_case tests setup t u node input out entry.txn case a o.opened in
     let l : ListedAt t shard epoch entry = a.before.entries.answered from node.name shard epoch entry (a.received from (PrepareAck shard epoch entry) e) in
     let v : IsView t shard view = view_is setup t node shard view a.before.configurations a.is o.sees in
     let same : l.config ≡ view = one_config setup t l.config view a.before.configurations l.stored v.stored (l.of_shard ∙ sym v.of_shard) (l.of_epoch ∙ sym at) in
-    let sees : view_of node.coordinator.views part.shard ≡ Some view = ap (λ s. view_of node.coordinator.views s) is.of_shard ∙ o.sees in
-    with_part-holds t node.coordinator.views entry.txn case (voted part entry) c
-    (voted-holds t entry.txn view (view_of node.coordinator.views part.shard) part.entry part.acks entry sees (c.parts part is.among) (λ none. subst (λ x. Listed t x entry) same l.listed) refl)
+    voted_case-holds t node.coordinator shard entry case part view (old_cases tests setup t u node input out a) o (λ none. subst (λ x. Listed t x entry) same l.listed)
 
 pub acknowledges_hold : (tests : Tests) (setup : Deployment) (t u : Moment) (node : NodeRecord) (input : Input) (out : Out NodeRecord) (from shard epoch slot : ℕ) (txn : TxId) (case : Case) (part : Part) (view : Membership)
     → IsActing tests setup t u node input out → input ≡ inputs.Deliver from (AcceptAck shard epoch slot txn) → OpenPart node.coordinator txn shard case part view → view.epoch ≡ epoch → voted_at part.entry slot ≡ true
     → CaseHolds t node.coordinator.views txn (with_part case (acknowledged part from))
 acknowledges_hold tests setup t u node input out from shard epoch slot txn case part view a e o at voted =
-    let is : IsPartOf case.parts shard part = part_is case.parts shard part o.has in
-    let c : CaseHolds t node.coordinator.views txn case = old_case tests setup t u node input out txn case a o.opened in
     let h : HeldAt t epoch from slot txn = a.before.entries.acknowledged from node.name shard epoch slot txn (a.received from (AcceptAck shard epoch slot txn) e) in
-    let sees : view_of node.coordinator.views part.shard ≡ Some view = ap (λ s. view_of node.coordinator.views s) is.of_shard ∙ o.sees in
-    with_part-holds t node.coordinator.views txn case (acknowledged part from) c
-    (acknowledged-holds t txn view (view_of node.coordinator.views part.shard) part.entry part.acks from slot sees (c.parts part is.among) voted (subst (λ x. HeldAt t x from slot txn) (sym at) h))
+    acknowledged_case-holds t node.coordinator from shard slot txn case part view (old_cases tests setup t u node input out a) o voted (subst (λ x. HeldAt t x from slot txn) (sym at) h)

@@ -32,6 +32,7 @@ use Rattle.protocol_laws.proofs.TransferSending.Sending.{Says, Answers, AsksVote
 use Rattle.protocol_laws.proofs.TransferSent.{SentNow, sent_why}
 use Rattle.protocol_laws.proofs.ViewsStored.{IsView, view_is}
 use Rattle.protocol_laws.proofs.ByTransaction.{lookup-StandsIn}
+use Rattle.protocol_laws.proofs.ConfigurationsHad.{had}
 
 listed_at-on : (t u : Moment) (shard epoch : ℕ) (x : Preparation) → Onward t u → ListedAt t shard epoch x → ListedAt u shard epoch x
 listed_at-on t u shard epoch x onward l = record { config = l.config; stored = onward.stored l.config l.stored; of_shard = l.of_shard; of_epoch = l.of_epoch; listed = listed-on t u l.config x onward l.listed }
@@ -95,9 +96,7 @@ follows_some setup t ct pt node n f = go node.role refl f
     go (Follower c) e k =
         let of : FitsRole node (Follower c) = subst (λ (r : Role). FitsRole node r) e (pt.roles node n) in
         let among : StandsIn c (role_configs node.role) = subst (λ (r : Role). StandsIn c (role_configs r)) (sym e) (inl refl) in
-        let stored : IsStored t c = ct.in_nodes node c n
-        (StandsIn-left (node.coordinator.views ++ role_configs node.role ++ probed_configs node.prober) (gathered_configs node.gathering) c
-        (StandsIn-left (node.coordinator.views ++ role_configs node.role) (probed_configs node.prober) c (StandsIn-right node.coordinator.views (role_configs node.role) c among))) in
+        let stored : IsStored t c = ct.in_nodes node c n ((had node c).role among) in
         subst (λ k. 1 ≤ k) of.0.epoch (stored-some setup t c ct stored)
 
 module _ (tests : Tests) (setup : Deployment) (t : Moment) (event : Event) (h : Happening) (turn : Turn tests setup t event h) (cu : ConfigurationsHold setup (goes_to t h.after)) (onward : Onward t (goes_to t h.after)) where

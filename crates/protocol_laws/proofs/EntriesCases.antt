@@ -8,21 +8,21 @@ use Rattle.tcs_terms.specs.Payloads.{Accesses}
 use Rattle.tcs_terms.specs.Places.{Membership, is_among}
 use Rattle.tcs_terms.specs.Preparations.{Preparation}
 use Rattle.protocol.specs.Cases.{asked, new_case}
-use Rattle.protocol.specs.Coordination.{begins, with_part, first_entry, voted_at, add_once, ask_again, change_view}
+use Rattle.protocol.specs.Coordination.{begins, with_part, first_entry, voted_at, add_once, ask_again, change_view, voted, acknowledged}
 use Rattle.protocol.specs.Invariant.Entries.{HeldAt, PartHolds, CaseHolds}
 use Rattle.protocol.specs.Invariant.Logs.{Listed}
 use Rattle.protocol.specs.Invariant.Time.{Moment, StandsIn}
 use Rattle.protocol.specs.Outcomes.{Out}
 use Rattle.protocol.specs.Records.{Part, Case, Coordinator}
 use Rattle.protocol.specs.Views.{view_of, replaced}
-use Rattle.protocol.proofs.Lists.{StandsIn-append}
-use Rattle.protocol_laws.specs.Effect.{GoesOn}
+use Rattle.protocol.proofs.Lists.{StandsIn-append, find-StandsIn}
+use Rattle.protocol_laws.specs.Effect.{GoesOn, OpenPart}
 use Rattle.protocol_laws.specs.Effect.GoesOn.{Waiting, Decides}
 use Rattle.protocol_laws.specs.Turn.{Onward}
 use Rattle.protocol_laws.proofs.Lasting.{listed-on}
 use Rattle.protocol_laws.proofs.Standing.{map-StandsIn, IsMapped}
 use Rattle.protocol_laws.proofs.EntriesAnswered.{held_at-on}
-use Rattle.protocol_laws.proofs.ByTransaction.{keys, set-keys, remove-differ, added-differ, set_value-StandsIn, remove_entry-StandsIn}
+use Rattle.protocol_laws.proofs.ByTransaction.{keys, set-keys, remove-differ, added-differ, set_value-StandsIn, remove_entry-StandsIn, lookup-StandsIn}
 use Rattle.protocol_laws.proofs.CaseParts.{put-shards, put-StandsIn}
 
 -- all cases of a coordinator hold, and there is one of a transaction
@@ -82,7 +82,7 @@ goes_on-holds t c txn case sends out h new (Decides d) = record {
 }
 
 -- a case with one part changed
-pub with_part-holds : (t : Moment) (views : List Membership) (txn : TxId) (case : Case) (part : Part) → CaseHolds t views txn case → PartHolds t txn (view_of views part.shard) part.entry part.acks → CaseHolds t views txn (with_part case part)
+with_part-holds : (t : Moment) (views : List Membership) (txn : TxId) (case : Case) (part : Part) → CaseHolds t views txn case → PartHolds t txn (view_of views part.shard) part.entry part.acks → CaseHolds t views txn (with_part case part)
 with_part-holds t views txn case part h new = record {
   shards = put-shards part case.parts ∙ h.shards;
   parts = λ p s. (elim (put-StandsIn part case.parts p s) [
@@ -92,13 +92,13 @@ with_part-holds t views txn case part h new = record {
 }
 
 -- a part that took a vote
-pub voted-holds : (t : Moment) (txn : TxId) (view : Membership) (seen : Option Membership) (kept : Option Preparation) (acks : List ℕ) (entry : Preparation) → seen ≡ Some view → PartHolds t txn seen kept acks → (kept ≡ None → Listed t view entry) → entry.txn ≡ txn
+voted-holds : (t : Moment) (txn : TxId) (view : Membership) (seen : Option Membership) (kept : Option Preparation) (acks : List ℕ) (entry : Preparation) → seen ≡ Some view → PartHolds t txn seen kept acks → (kept ≡ None → Listed t view entry) → entry.txn ≡ txn
     → PartHolds t txn seen (Some (first_entry kept entry)) acks
 voted-holds t txn view seen None acks entry e p listed of = subst (λ (o : Option Membership). PartHolds t txn o (Some entry) acks) (sym e) (listed refl, of, λ name s. absurd (subst (λ xs. StandsIn name xs) p s))
 voted-holds t txn view seen (Some kept) acks entry e p listed of = p
 
 -- a part that took an acknowledgement
-pub acknowledged-holds : (t : Moment) (txn : TxId) (view : Membership) (seen : Option Membership) (kept : Option Preparation) (acks : List ℕ) (from slot : ℕ) → seen ≡ Some view → PartHolds t txn seen kept acks → voted_at kept slot ≡ true → HeldAt t view.epoch from slot txn
+acknowledged-holds : (t : Moment) (txn : TxId) (view : Membership) (seen : Option Membership) (kept : Option Preparation) (acks : List ℕ) (from slot : ℕ) → seen ≡ Some view → PartHolds t txn seen kept acks → voted_at kept slot ≡ true → HeldAt t view.epoch from slot txn
     → PartHolds t txn seen kept (add_once acks from)
 acknowledged-holds t txn view seen None acks from slot e p v held = absurd (cc v)
 acknowledged-holds t txn view seen (Some kept) acks from slot e p v held = subst (λ (o : Option Membership). PartHolds t txn o (Some kept) (add_once acks from)) (sym e) (by (subst (λ (o : Option Membership). PartHolds t txn o (Some kept) acks) e p))
@@ -119,6 +119,31 @@ acknowledged-holds t txn view seen (Some kept) acks from slot e p v held = subst
         among : (name : ℕ) → StandsIn name (add_once acks from) → (b : Bool) → is_among acks from ≡ b → HeldAt t view.epoch name kept.slot txn
         among name s true f = q.2 name (subst (λ b. StandsIn name (cond b acks (acks ++ from ∷ []))) f s)
         among name s false f = joined name (subst (λ b. StandsIn name (cond b acks (acks ++ from ∷ []))) f s)
+
+-- the part that an answer is about, and its view
+record PartOpen (t : Moment) (c : Coordinator) (txn : TxId) (case : Case) (part : Part) (view : Membership) : Type 0 where
+  case_holds : CaseHolds t c.views txn case
+  part_holds : PartHolds t txn (view_of c.views part.shard) part.entry part.acks
+  sees : view_of c.views part.shard ≡ Some view
+
+part_open : (t : Moment) (c : Coordinator) (txn : TxId) (shard : ℕ) (case : Case) (part : Part) (view : Membership) → CasesHold t c → OpenPart c txn shard case part view → PartOpen t c txn case part view
+part_open t c txn shard case part view h o =
+    let k : CaseHolds t c.views txn case = h.each txn case (lookup-StandsIn txn c.cases case o.opened) in
+    let f = find-StandsIn (λ (p : Part). p.shard == shard) case.parts part o.has in
+    record { case_holds = k; part_holds = k.parts part f.0; sees = ap (λ s. view_of c.views s) (eqb-true part.shard shard f.1) ∙ o.sees }
+
+-- an open case as a shard votes, and as a follower acknowledges
+pub voted_case-holds : (t : Moment) (c : Coordinator) (shard : ℕ) (entry : Preparation) (case : Case) (part : Part) (view : Membership) → CasesHold t c → OpenPart c entry.txn shard case part view → (part.entry ≡ None → Listed t view entry)
+    → CaseHolds t c.views entry.txn (with_part case (voted part entry))
+voted_case-holds t c shard entry case part view h o listed =
+    let p : PartOpen t c entry.txn case part view = part_open t c entry.txn shard case part view h o in
+    with_part-holds t c.views entry.txn case (voted part entry) p.case_holds (voted-holds t entry.txn view (view_of c.views part.shard) part.entry part.acks entry p.sees p.part_holds listed refl)
+
+pub acknowledged_case-holds : (t : Moment) (c : Coordinator) (from shard slot : ℕ) (txn : TxId) (case : Case) (part : Part) (view : Membership) → CasesHold t c → OpenPart c txn shard case part view → voted_at part.entry slot ≡ true → HeldAt t view.epoch from slot txn
+    → CaseHolds t c.views txn (with_part case (acknowledged part from))
+acknowledged_case-holds t c from shard slot txn case part view h o votes held =
+    let p : PartOpen t c txn case part view = part_open t c txn shard case part view h o in
+    with_part-holds t c.views txn case (acknowledged part from) p.case_holds (acknowledged-holds t txn view (view_of c.views part.shard) part.entry part.acks from slot p.sees p.part_holds votes held)
 
 -- a view of another shard stays
 view-other : (views : List Membership) (config : Membership) (shard : ℕ) → (shard == config.shard) ≡ false → view_of (replaced views config) shard ≡ view_of views shard

@@ -28,23 +28,11 @@ use Rattle.protocol_laws.specs.Effect.Sees.{Replaces, Keeps}
 use Rattle.protocol_laws.specs.Turn.{Turn, Onward}
 use Rattle.protocol_laws.proofs.ConfigurationsInputs.{delivered}
 use Rattle.protocol_laws.proofs.EntriesAnswered.{asked_listed}
-use Rattle.protocol_laws.proofs.EntriesCases.{CasesHold, cases-on, new_case-holds, begins-holds, goes_on-holds, with_part-holds, voted-holds, acknowledged-holds, change_view-holds}
+use Rattle.protocol_laws.proofs.EntriesCases.{CasesHold, cases-on, new_case-holds, begins-holds, goes_on-holds, change_view-holds, voted_case-holds, acknowledged_case-holds}
 use Rattle.protocol_laws.proofs.ByTransaction.{keys, lookup-none-StandsIn, lookup-StandsIn}
 use Rattle.protocol_laws.proofs.Standing.{map-StandsIn, IsMapped}
 use Rattle.protocol_laws.proofs.Came.{node_back, Acting}
 use Rattle.protocol_laws.proofs.TransferSending.{VotesNow}
-
--- the part that an answer is about, and its view
-record PartOpen (t : Moment) (c : Coordinator) (txn : TxId) (case : Case) (part : Part) (view : Membership) : Type 0 where
-  case_holds : CaseHolds t c.views txn case
-  part_holds : PartHolds t txn (view_of c.views part.shard) part.entry part.acks
-  sees : view_of c.views part.shard ≡ Some view
-
-part_open : (t : Moment) (c : Coordinator) (txn : TxId) (shard : ℕ) (case : Case) (part : Part) (view : Membership) → CasesHold t c → OpenPart c txn shard case part view → PartOpen t c txn case part view
-part_open t c txn shard case part view h o =
-    let k : CaseHolds t c.views txn case = h.each txn case (lookup-StandsIn txn c.cases case o.opened) in
-    let f = find-StandsIn (λ (p : Part). p.shard == shard) case.parts part o.has in
-    record { case_holds = k; part_holds = k.parts part f.0; sees = ap (λ s. view_of c.views s) (eqb-true part.shard shard f.1) ∙ o.sees }
 
 -- what cases rest on, at the moment of an event
 record Ready (t : Moment) (node : NodeRecord) (input : Input) : Type 0 where
@@ -59,16 +47,13 @@ cases_by tests version t node input out (Certifies payload l case e) r =
 cases_by tests version t node input out (TakesOver txn row found unknown none may case e) r =
     begins-holds t node.coordinator txn case r.cases (subst (λ (c : Case). CaseHolds t node.coordinator.views txn c) (sym e) (new_case-holds t node.coordinator.views txn _ _)) (lookup-none-StandsIn txn node.coordinator.cases none)
 cases_by tests version t node input out (Votes from shard epoch entry case part view opened at leads fits coordinator goes) r =
-    let p : PartOpen t node.coordinator entry.txn case part view = part_open t node.coordinator entry.txn shard case part view r.cases opened in
     let listed : Listed t view (first_entry part.entry entry) = r.votes view (first_entry part.entry entry)
     (record { from = from; shard = shard; answered = entry; case = case; part = part; delivers = ap (λ n. Deliver from (PrepareAck shard n entry)) (sym at); is_open = opened; is = refl }) in
     goes_on-holds t node.coordinator entry.txn _ _ coordinator r.cases
-    (with_part-holds t node.coordinator.views entry.txn case (voted part entry) p.case_holds (voted-holds t entry.txn view (view_of node.coordinator.views part.shard) part.entry part.acks entry p.sees p.part_holds (λ none. subst (λ k. Listed t view (first_entry k entry)) none listed) refl)) goes
+    (voted_case-holds t node.coordinator shard entry case part view r.cases opened (λ none. subst (λ k. Listed t view (first_entry k entry)) none listed)) goes
 cases_by tests version t node input out (Acknowledges from shard epoch slot txn case part view opened at follows votes coordinator goes) r =
-    let p : PartOpen t node.coordinator txn case part view = part_open t node.coordinator txn shard case part view r.cases opened in
     let held : HeldAt t view.epoch from slot txn = subst (λ n. HeldAt t n from slot txn) (sym at) (r.acks from shard epoch slot txn refl) in
-    goes_on-holds t node.coordinator txn _ _ coordinator r.cases
-    (with_part-holds t node.coordinator.views txn case (acknowledged part from) p.case_holds (acknowledged-holds t txn view (view_of node.coordinator.views part.shard) part.entry part.acks from slot p.sees p.part_holds votes held)) goes
+    goes_on-holds t node.coordinator txn _ _ coordinator r.cases (acknowledged_case-holds t node.coordinator from shard slot txn case part view r.cases opened votes held) goes
 cases_by tests version t node input out (Changes from config newer) r = change_view-holds t node.coordinator config r.cases
 cases_by tests version t node input out (Learns from config coordinator sent stage asked sees hears) r = sees-holds coordinator sent sees
   where

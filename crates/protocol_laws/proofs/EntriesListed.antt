@@ -1,5 +1,5 @@
--- How an entry comes into a list: with the rows of a new leader, or as its leader appends it. Each slot and each
--- transaction stands there once.
+-- How an entry comes into a list: with the rows of a new leader, or as its leader appends it; no slot or transaction
+-- stands there twice.
 use Rattle.std.proofs.Common.{◌≡◌, ℕ, ◌≤◌, ◌<◌, [], ◌∷◌, ◌++◌, ◌⊎◌, inl, inr, sym, ◌∙◌, ap, subst, refl, eq-or-lt_of_le}
 use Rattle.tcs_terms.specs.declared.inputs.Event.{Event}
 use Rattle.tcs_terms.specs.Places.{Membership}

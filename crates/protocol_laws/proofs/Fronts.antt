@@ -1,4 +1,4 @@
--- Lemmas on histories that grow: fronts of lists, where an element of two joined lists stands, and payloads.
+-- Histories that grow: fronts of lists, where an element of two joined lists stands, and payloads.
 use Rattle.std.proofs.Common.{◌≡◌, Option, Some, None, List, [], ◌∷◌, ◌++◌, sym, ◌∙◌, ap, refl, append_assoc, append-nil, subst}
 use Rattle.tcs_terms.specs.declared.ids.TxId.{TxId}
 use Rattle.tcs_terms.specs.declared.inputs.Note.{Note}

@@ -1,5 +1,5 @@
--- Real time: where one committed transaction is decided before another begins, it stands before it in the order. For each
--- decision stands after its transaction's beginning.
+-- Real time: where one committed transaction is decided before another begins, it stands before it in the order, since
+-- each decision stands after its transaction's beginning.
 use Rattle.std.proofs.Common.{◌≡◌, Bool, true, false, not, List, ◌∷◌, ◌++◌, ◌&&◌, ◌||◌, Option, Some, None, is_some, inl, inr, sym, ◌∙◌, ap, subst, refl, append_assoc}
 use Rattle.std.proofs.lemmas.Bool.{and_from}
 use Rattle.std.specs.List.{list_all, list_any}

@@ -1,7 +1,8 @@
--- Lemmas on lists whose elements are numbered in order.
-use Rattle.std.proofs.Common.{◌≡◌, ℕ, zero, suc, ◌+◌, ◌-◌, ◌<◌, ◌≤◌, List, [], ◌∷◌, map, slice_index, inl, inr, sym, ◌∙◌, ap, arith}
+-- Lists whose elements are numbered in order: no number stands twice or outside its range, and each stands at its place.
+use Rattle.std.proofs.Common.{◌≡◌, ℕ, zero, suc, ◌+◌, ◌-◌, ◌<◌, ◌≤◌, List, [], ◌∷◌, map, slice_index, inl, inr, sym, ◌∙◌, ap, arith, ◌⊎◌, refl}
 use Rattle.std.specs.List.{range_with_len}
 use Rattle.protocol.specs.Invariant.Time.{StandsIn}
+use Rattle.std.proofs.Math.Nat.{eq-or-lt_of_le}
 
 -- these many elements, numbered from that number on
 abbrev pub AreNumbered : {X : Type 0} → (X → ℕ) → List X → ℕ → ℕ → Type 0
@@ -63,3 +64,14 @@ numbered-below f [] from count x h s = absurd s
 numbered-below f (y ∷ ys) from zero x h s = absurd (cc h)
 numbered-below f (y ∷ ys) from (suc n) x h (inl e) = let k : f y ≡ from = cc h in let m : f x ≡ from = ap f e ∙ k in omega (arith, m)
 numbered-below f (y ∷ ys) from (suc n) x h (inr s) = omega (arith, numbered-below f ys (from + 1) n x (cc h) s)
+
+-- each number has its element
+pub numbered_there : {X : Type 0} (f : X → ℕ) (xs : List X) (from count k : ℕ) → AreNumbered f xs from count → from ≤ k → k < from + count → (x : X) × StandsIn x xs × (f x ≡ k)
+numbered_there f [] from zero k h low high = absurd (omega (arith, low, high))
+numbered_there f [] from (suc n) k h low high = absurd (cc h)
+numbered_there f (y ∷ ys) from zero k h low high = absurd (omega (arith, low, high))
+numbered_there {X} f (y ∷ ys) from (suc n) k h low high = go (eq-or-lt_of_le low) (λ l. numbered_there f ys (from + 1) n k (cc h) l (omega (arith, high)))
+  where
+    go : (from ≡ k) ⊎ (from < k) → (from + 1 ≤ k → (x : X) × StandsIn x ys × (f x ≡ k)) → (x : X) × StandsIn x (y ∷ ys) × (f x ≡ k)
+    go (inl e) ih = let is : f y ≡ from = cc h in (y, inl refl, is ∙ e)
+    go (inr l) ih = let r = ih (omega (arith, l)) in (r.0, inr r.1, r.2)

@@ -12,23 +12,7 @@ use Rattle.tcs_laws.specs.Writing.{writes_name}
 use Rattle.protocol.proofs.Lists.{all-StandsIn}
 use Rattle.protocol.specs.Invariant.Time.{StandsIn}
 use Rattle.protocol_laws.proofs.NamesOnce.{same_name-eq, find-once}
-
--- an element that passes a test that some element passes
-pub record Passing {X : Type 0} (p : X → Bool) (xs : List X) : Type 0 where
-  pub one : X
-  pub there : StandsIn one xs
-  pub passes : p one ≡ true
-
-pub any-Passing : {X : Type 0} (p : X → Bool) (xs : List X) → list_any p xs ≡ true → Passing p xs
-any-Passing p [] h = absurd (cc h)
-any-Passing {X = X} p (x ∷ xs) h = go (p x) refl h (λ k. any-Passing p xs k)
-  where
-    later : Passing p xs → Passing p (x ∷ xs)
-    later k = record { one = k.one; there = inr k.there; passes = k.passes }
-
-    go : (b : Bool) → p x ≡ b → (b || list_any p xs) ≡ true → (list_any p xs ≡ true → Passing p xs) → Passing p (x ∷ xs)
-    go true e k ih = record { one = x; there = inl refl; passes = e }
-    go false e k ih = later (ih k)
+use Rattle.protocol_laws.proofs.Standing.{Passing, any-Passing}
 
 -- a read of an object, found by its name, at a version below the payload's
 record IsRead (p : Accesses) (name : List ℕ) : Type 0 where

@@ -1,5 +1,5 @@
 -- Whatever a client began is a payload, if it asked to certify payloads.
-use Rattle.std.proofs.Common.{◌≡◌, ℕ, List, ◌++◌, inl, inr, sym, ap, subst}
+use Rattle.std.proofs.Common.{◌≡◌, ℕ, List, ◌++◌, inl, inr, sym, ap, subst, ◌∙◌, append-nil, length}
 use Rattle.tcs_terms.specs.declared.ids.TxId.{TxId}
 use Rattle.tcs_terms.specs.declared.inputs.Event.{Event}
 use Rattle.tcs_terms.specs.declared.inputs.Event.TheVariants.{Call}
@@ -20,6 +20,7 @@ use Rattle.protocol_laws.specs.Effect.{Effect, Rests, Certifies, TakesOver, Read
 use Rattle.protocol_laws.specs.Runs.{EventStands}
 use Rattle.protocol_laws.proofs.HistoryKept.{ArePayloads}
 use Rattle.protocol_laws.proofs.TransactionsNotes.{goes_on-begins}
+use Rattle.protocol_laws.proofs.ServiceSays.{serves_no_notes}
 
 -- what begins was asked to be certified
 effect-begins : (tests : Tests) (version : ℕ) (node : NodeRecord) (input : Input) (out : Out NodeRecord) (begun : TxId) (whole : Accesses) → Effect tests version node input out → StandsIn (Begin begun whole) out.notes → inputs.Certify whole ≡ input
@@ -30,11 +31,6 @@ effect-begins tests version node i o begun whole (Reads name a) s = elim s [ inl
 effect-begins tests version node i o begun whole (Votes from shard epoch entry case part view a b c d out g) s = absurd (goes_on-begins _ _ _ _ out begun whole g s)
 effect-begins tests version node i o begun whole (Acknowledges from shard epoch slot txn case part view a b c d out g) s = absurd (goes_on-begins _ _ _ _ out begun whole g s)
 effect-begins tests version node i o begun whole _ s = absurd s
-
-serves-begins : (nodes : ℕ) (configs : List Membership) (from : ℕ) (message : Message) (out : Out (List Membership)) (begun : TxId) (whole : Accesses) → Serves nodes configs from message out → StandsIn (Begin begun whole) out.notes → ⊥
-serves-begins nodes configs from m o begun whole (HoldsBack message answer notices h) s = s
-serves-begins nodes configs from m o begun whole (Tells message c h) s = s
-serves-begins nodes configs from m o begun whole (Stores c last a b d) s = s
 
 came : (w : World) (name : ℕ) (event : Event) (input : Input) (whole : Accesses) → Comes w name event input → inputs.Certify whole ≡ input → event ≡ Call name (inputs.Certify whole)
 came w name e i whole (ByCall input) h = ap (λ x. Call name x) (sym h)
@@ -50,10 +46,5 @@ payloads_kept tests version w e h (Acts event name node input out comes found s 
       | inl old ↦ p txn whole old
       | inr new ↦ subst EventStands (came w name event input whole comes (effect-begins tests version node input out txn whole effect new)) formed
     ]
-payloads_kept tests version w e h (AtService number from message sent out is found s serves) formed p = go
-  where
-    go : (txn : TxId) (whole : Accesses) → StandsIn (Begin txn whole) (w.history ++ out.notes) → IsPayload whole
-    go txn whole s = elim (StandsIn-append w.history out.notes (Begin txn whole) s) [
-      | inl old ↦ p txn whole old
-      | inr new ↦ absurd (serves-begins _ _ _ _ out txn whole serves new)
-    ]
+payloads_kept tests version w e h (AtService number from message sent out is found s serves) formed p = λ txn whole s.
+    p txn whole (subst (λ ns. StandsIn (Begin txn whole) ns) (ap (λ ns. w.history ++ ns) (serves_no_notes (length w.nodes) w.configs from message out serves) ∙ append-nil w.history) s)

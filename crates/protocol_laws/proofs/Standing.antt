@@ -136,3 +136,20 @@ pub range-StandsIn : (from count k : ℕ) → StandsIn k (range_with_len from co
 range-StandsIn from zero k s = absurd s
 range-StandsIn from (suc n) k (inl e) = (omega (arith, e), omega (arith, e))
 range-StandsIn from (suc n) k (inr s) = let r : (from + 1 ≤ k) × (k < from + 1 + n) = range-StandsIn (from + 1) n k s in (omega (arith, r.0), omega (arith, r.1))
+
+-- an element that passes a test that some element passes
+pub record Passing {X : Type 0} (p : X → Bool) (xs : List X) : Type 0 where
+  pub one : X
+  pub there : StandsIn one xs
+  pub passes : p one ≡ true
+
+pub any-Passing : {X : Type 0} (p : X → Bool) (xs : List X) → list_any p xs ≡ true → Passing p xs
+any-Passing p [] h = absurd (cc h)
+any-Passing {X = X} p (x ∷ xs) h = go (p x) refl h (λ k. any-Passing p xs k)
+  where
+    later : Passing p xs → Passing p (x ∷ xs)
+    later k = record { one = k.one; there = inr k.there; passes = k.passes }
+
+    go : (b : Bool) → p x ≡ b → (b || list_any p xs) ≡ true → (list_any p xs ≡ true → Passing p xs) → Passing p (x ∷ xs)
+    go true e k ih = record { one = x; there = inl refl; passes = e }
+    go false e k ih = later (ih k)

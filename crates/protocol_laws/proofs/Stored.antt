@@ -1,4 +1,4 @@
--- Stored configurations: one of each shard and epoch, the next of a later one; leaders and followers are members, members of the shard.
+-- Stored configurations: one of each shard and epoch, the next of a later epoch, whose leader and followers are members.
 use Rattle.std.proofs.Common.{◌≡◌, ℕ, ◌≤◌, filter, ◌==◌, refl, eq-eqb, ◌+◌, ◌-◌, ◌<◌, true, length, slice_index, Some, sym, ◌∙◌, ap, arith, eqb-true, not}
 use Rattle.tcs_terms.specs.Places.{Membership}
 use Rattle.tcs_terms.specs.Setups.{Deployment, has_node, is_node_of}

@@ -14,20 +14,10 @@ use Rattle.protocol.specs.World.{Happening}
 use Rattle.protocol.proofs.Lists.{all-StandsIn}
 use Rattle.protocol_laws.specs.Turn.{Turn, Onward, GrewTo}
 use Rattle.protocol_laws.proofs.Lasting.{IsIn, reached-back, is_in-now}
-use Rattle.protocol_laws.proofs.Numbered.{AreNumbered}
+use Rattle.protocol_laws.proofs.Numbered.{AreNumbered, numbered_there}
 use Rattle.protocol_laws.proofs.Stored.{one_config, next_above, member_shard}
 use Rattle.protocol_laws.proofs.Came.{node_back, config_back, IsNext, IsOfActing, effect_name}
 use Rattle.protocol_laws.proofs.TransferEnters.{enters, EntersAs, LeadsAs, Following}
-
-numbered_there : {X : Type 0} (f : X → ℕ) (xs : List X) (from count k : ℕ) → AreNumbered f xs from count → from ≤ k → k < from + count → (x : X) × StandsIn x xs × (f x ≡ k)
-numbered_there f [] from zero k h low high = absurd (omega (arith, low, high))
-numbered_there f [] from (suc n) k h low high = absurd (cc h)
-numbered_there f (y ∷ ys) from zero k h low high = absurd (omega (arith, low, high))
-numbered_there {X} f (y ∷ ys) from (suc n) k h low high = go (eq-or-lt_of_le low) (λ l. numbered_there f ys (from + 1) n k (cc h) l (omega (arith, high)))
-  where
-    go : (from ≡ k) ⊎ (from < k) → (from + 1 ≤ k → (x : X) × StandsIn x ys × (f x ≡ k)) → (x : X) × StandsIn x (y ∷ ys) × (f x ≡ k)
-    go (inl e) ih = let is : f y ≡ from = cc h in (y, inl refl, is ∙ e)
-    go (inr l) ih = let r = ih (omega (arith, l)) in (r.0, inr r.1, r.2)
 
 -- a member of a configuration is a node of its shard
 record IsThere (t : Moment) (c : Membership) (name : ℕ) : Type 0 where

@@ -1,4 +1,4 @@
--- Why a node sends a message that speaks of entries: each effect's sends.
+-- Why a node sends each message that speaks of entries.
 use Rattle.std.proofs.Common.{◌≡◌, ℕ, ◌≤◌, Bool, true, false, cond, ◌==◌, nat_lt, List, [], ◌∷◌, ◌++◌, filter, Option, Some, None, inl, sym, ◌∙◌, ap, subst, refl, eqb-true, arith, ◌<◌, ◌+◌}
 use Rattle.tcs_terms.specs.declared.ids.TxId.{TxId}
 use Rattle.tcs_terms.specs.declared.inputs.Input.{Input}
