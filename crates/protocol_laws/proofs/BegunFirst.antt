@@ -15,8 +15,7 @@ use Rattle.protocol.specs.World.{first_world}
 use Rattle.protocol_laws.specs.Runs.{AreEvents}
 use Rattle.protocol_laws.proofs.Agreement.{decided-HasBegun}
 use Rattle.protocol_laws.proofs.Fronts.{Splits, InFirst, InSecond, splits, payload_in-decide}
-use Rattle.protocol_laws.proofs.HistoryKept.{IsLast, is_last}
-use Rattle.protocol_laws.proofs.OneNote.{GoesOnByOne, change-one}
+use Rattle.protocol_laws.proofs.OneNote.{GoesOnByOne, change-one, IsLast, is_last}
 use Rattle.protocol_laws.proofs.RunInduction.{IsKept, run_induction}
 use Rattle.protocol_laws.proofs.Standing.{StandsIn-right}
 

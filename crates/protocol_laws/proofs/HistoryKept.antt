@@ -23,7 +23,7 @@ use Rattle.protocol_laws.proofs.CausesNow.{NamesClash, clash_now, lost_now}
 use Rattle.protocol_laws.proofs.DecidesNow.{DecidesNow, now-noted, earlier-noted, earlier-payload}
 use Rattle.protocol_laws.proofs.Fronts.{Splits, InFirst, InSecond, splits}
 use Rattle.protocol_laws.proofs.LegalNow.{legal_now}
-use Rattle.protocol_laws.proofs.OneNote.{AtMostOne, GoesOnByOne, change-one}
+use Rattle.protocol_laws.proofs.OneNote.{AtMostOne, GoesOnByOne, change-one, IsLast, is_last}
 use Rattle.protocol_laws.proofs.PastKept.{PastHolds}
 
 -- whatever a client began is a payload
@@ -79,18 +79,6 @@ stands_now tests setup t earlier txn decision deployment now =
     legal d lawful first other old formed s b n =
         let old_begun : payload_in t.now.history other ≡ Some old = earlier-payload tests setup t earlier txn other Commit n ∙ b in
         legal_now tests setup t earlier txn other old d.payload deployment lawful n first s old_begun d.begun.first formed
-
--- a note that is the last one, where at most one was added
-pub record IsLast (notes between : List Note) (n : Note) : Type 0 where
-  pub nothing : between ≡ []
-  pub only : notes ≡ n ∷ []
-
-pub is_last : (notes between : List Note) (n : Note) (later : List Note) → AtMostOne notes → notes ≡ between ++ (n ∷ later) → IsLast notes between n
-is_last notes [] n later (inl e) h = absurd (cc (e, h))
-is_last notes (b ∷ bs) n later (inl e) h = absurd (cc (e, h))
-is_last notes [] n later (inr o) h = record { nothing = refl; only = let e : o.0 ≡ n = cc (o.1, h) in o.1 ∙ ap (λ m. m ∷ []) e }
-is_last notes (b ∷ []) n later (inr o) h = absurd (cc (o.1, h))
-is_last notes (b ∷ c ∷ bs) n later (inr o) h = absurd (cc (o.1, h))
 
 pub history_kept : (tests : Tests) (setup : Deployment) (t : Moment) (event : Event) (h : Happening) → Turn tests setup t event h → InvariantHolds tests setup (goes_to t h.after)
     → PastHolds setup t → PastHolds setup (goes_to t h.after) → HistoryHolds tests setup.shards t.now.history → HistoryHolds tests setup.shards h.after.history

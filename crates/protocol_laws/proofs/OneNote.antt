@@ -1,5 +1,5 @@
 -- One event notes at most one thing.
-use Rattle.std.proofs.Common.{◌≡◌, ℕ, List, [], ◌∷◌, ◌++◌, ◌⊎◌, inl, inr, sym, refl, append-nil}
+use Rattle.std.proofs.Common.{◌≡◌, ℕ, List, [], ◌∷◌, ◌++◌, ◌⊎◌, inl, inr, sym, refl, append-nil, ◌∙◌, ap}
 use Rattle.tcs_terms.specs.declared.ids.TxId.{TxId}
 use Rattle.tcs_terms.specs.declared.inputs.Event.{Event}
 use Rattle.tcs_terms.specs.declared.inputs.Input.{Input}
@@ -25,7 +25,7 @@ goes_on-one : (c : Coordinator) (txn : TxId) (case : Case) (sends : List Outgoin
 goes_on-one c txn case sends o (Waiting h) = inl refl
 goes_on-one c txn case sends o (Decides h) = inr (notes.Decide txn (decision_of case.parts), refl)
 
-effect-one : (tests : Tests) (version : ℕ) (node : NodeRecord) (input : Input) (out : Out NodeRecord) → Effect tests version node input out → AtMostOne out.notes
+pub effect-one : (tests : Tests) (version : ℕ) (node : NodeRecord) (input : Input) (out : Out NodeRecord) → Effect tests version node input out → AtMostOne out.notes
 effect-one tests version node i o (Rests input answer notices h) = inl refl
 effect-one tests version node i o (Certifies payload h case e) = inr (notes.Begin (next_txn node) payload, refl)
 effect-one tests version node i o (TakesOver txn row a b c d case e) = inr (notes.Take txn, refl)
@@ -45,3 +45,15 @@ change-one tests version w e h (Passes event result a) = record { notes = []; is
 change-one tests version w e h (Stops name) = record { notes = []; is = sym (append-nil w.history); one = inl refl }
 change-one tests version w e h (Acts event name node input out comes found s named up effect) = record { notes = out.notes; is = refl; one = effect-one tests version node input out effect }
 change-one tests version w e h (AtService number from message sent out is found s serves) = record { notes = out.notes; is = refl; one = inl (serves_no_notes _ _ _ _ out serves) }
+
+-- a note that is the last one, where at most one was added
+pub record IsLast (notes between : List Note) (n : Note) : Type 0 where
+  pub nothing : between ≡ []
+  pub only : notes ≡ n ∷ []
+
+pub is_last : (notes between : List Note) (n : Note) (later : List Note) → AtMostOne notes → notes ≡ between ++ (n ∷ later) → IsLast notes between n
+is_last notes [] n later (inl e) h = absurd (cc (e, h))
+is_last notes (b ∷ bs) n later (inl e) h = absurd (cc (e, h))
+is_last notes [] n later (inr o) h = record { nothing = refl; only = let e : o.0 ≡ n = cc (o.1, h) in o.1 ∙ ap (λ m. m ∷ []) e }
+is_last notes (b ∷ []) n later (inr o) h = absurd (cc (o.1, h))
+is_last notes (b ∷ c ∷ bs) n later (inr o) h = absurd (cc (o.1, h))

@@ -34,49 +34,28 @@ use Rattle.protocol_laws.proofs.Fronts.Splits.{InFirst, InSecond}
 use Rattle.protocol_laws.proofs.ReadingsLast.{is_reading, read_was_written}
 use Rattle.protocol_laws.proofs.Noted.HistoryCame.{NothingNoted, NodeNotes}
 use Rattle.protocol_laws.proofs.Noted.{HistoryCame, history_came}
+use Rattle.protocol_laws.proofs.OneNote.{effect-one, IsLast, is_last}
 
-no_note : (front : List Note) (x : Note) (after : List Note) → [] ≡ front ++ (x ∷ after) → ⊥
-no_note [] x after e = cc e
-no_note (n ∷ ns) x after e = cc e
-
--- the one note of a list
-record IsOnly (n : Note) (front : List Note) (x : Note) : Type 0 where
-  first : front ≡ []
-  is : x ≡ n
-
-one_note : (n : Note) (front : List Note) (x : Note) (after : List Note) → n ∷ [] ≡ front ++ (x ∷ after) → IsOnly n front x
-one_note n [] x after e = record { first = refl; is = cc e }
-one_note n (m ∷ ms) x after e = absurd (no_note ms x after (cc e))
-
-goes_on_reads : (c : Coordinator) (txn : TxId) (case : Case) (sends : List Outgoing) (out : Out Coordinator) (name : List ℕ) (version : ℕ) (value : List ℕ) (front after : List Note) → GoesOn c txn case sends out
-    → out.notes ≡ front ++ (notes.ReadValue name version value ∷ after) → ⊥
-goes_on_reads c txn case sends _ name version value front after (Waiting h) e = no_note front (notes.ReadValue name version value) after e
-goes_on_reads c txn case sends _ name version value front after (Decides h) e =
-    let i : notes.ReadValue name version value ≡ notes.Decide txn (decision_of case.parts) = (one_note (notes.Decide txn (decision_of case.parts)) front (notes.ReadValue name version value) after e).is in cc i
+goes_on_reads : (c : Coordinator) (txn : TxId) (case : Case) (sends : List Outgoing) (out : Out Coordinator) (name : List ℕ) (version : ℕ) (value : List ℕ) → GoesOn c txn case sends out → out.notes ≡ notes.ReadValue name version value ∷ [] → ⊥
+goes_on_reads c txn case sends _ name version value (Waiting h) e = cc e
+goes_on_reads c txn case sends _ name version value (Decides h) e = cc e
 
 -- a reading that a node notes is that of its rows
-record IsRead (node : NodeRecord) (front : List Note) (name : List ℕ) (version : ℕ) (value : List ℕ) : Type 0 where
-  first : front ≡ []
+record IsRead (node : NodeRecord) (name : List ℕ) (version : ℕ) (value : List ℕ) : Type 0 where
   of_version : version ≡ (read_of node.rows name).version
   of_value : value ≡ value_or_empty (read_of node.rows name).value
 
-acting_reads : (tests : Tests) (v : ℕ) (node : NodeRecord) (input : Input) (out : Out NodeRecord) (front : List Note) (name : List ℕ) (version : ℕ) (value : List ℕ) (after : List Note) → Effect tests v node input out
-    → out.notes ≡ front ++ (notes.ReadValue name version value ∷ after) → IsRead node front name version value
-acting_reads tests v node _ _ front name version value after (Reads n h) e =
-    let o : IsOnly (notes.ReadValue n (read_of node.rows n).version (value_or_empty (read_of node.rows n).value)) front (notes.ReadValue name version value) =
-    one_note (notes.ReadValue n (read_of node.rows n).version (value_or_empty (read_of node.rows n).value)) front (notes.ReadValue name version value) after e in
-    let is : notes.ReadValue name version value ≡ notes.ReadValue n (read_of node.rows n).version (value_or_empty (read_of node.rows n).value) = o.is in
-    let same : n ≡ name = cc is in
+acting_reads : (tests : Tests) (v : ℕ) (node : NodeRecord) (input : Input) (out : Out NodeRecord) (name : List ℕ) (version : ℕ) (value : List ℕ) → Effect tests v node input out → out.notes ≡ notes.ReadValue name version value ∷ []
+    → IsRead node name version value
+acting_reads tests v node _ _ name version value (Reads n h) e =
+    let same : n ≡ name = cc e in
     record {
-      first = o.first;
-      of_version = subst (λ m. version ≡ (read_of node.rows m).version) same (cc is);
-      of_value = subst (λ m. value ≡ value_or_empty (read_of node.rows m).value) same (cc is);
+      of_version = subst (λ m. version ≡ (read_of node.rows m).version) same (cc e);
+      of_value = subst (λ m. value ≡ value_or_empty (read_of node.rows m).value) same (cc e);
     }
-acting_reads tests v node _ _ front name version value after (Certifies payload l case q) e = absurd (let i : notes.ReadValue name version value ≡ notes.Begin (next_txn node) payload = (one_note (notes.Begin (next_txn node) payload) front (notes.ReadValue name version value) after e).is in cc i)
-acting_reads tests v node _ _ front name version value after (TakesOver txn row of unmarked closed may case q) e = absurd (let i : notes.ReadValue name version value ≡ notes.Take txn = (one_note (notes.Take txn) front (notes.ReadValue name version value) after e).is in cc i)
-acting_reads tests v node _ _ front name version value after (Votes from shard epoch entry case part view o b c d out g) e = absurd (goes_on_reads _ _ _ _ out name version value front after g e)
-acting_reads tests v node _ _ front name version value after (Acknowledges from shard epoch slot txn case part view o b c d out g) e = absurd (goes_on_reads _ _ _ _ out name version value front after g e)
-acting_reads tests v node _ _ front name version value after _ e = absurd (no_note front (notes.ReadValue name version value) after e)
+acting_reads tests v node _ _ name version value (Votes from shard epoch entry case part view o b c d out g) e = absurd (goes_on_reads _ _ _ _ out name version value g e)
+acting_reads tests v node _ _ name version value (Acknowledges from shard epoch slot txn case part view o b c d out g) e = absurd (goes_on_reads _ _ _ _ out name version value g e)
+acting_reads tests v node _ _ name version value _ e = absurd (cc e)
 
 -- what a reading tells, after a history
 abbrev Tells : List Note → List ℕ → ℕ → List ℕ → Type 0
@@ -102,9 +81,10 @@ readings_kept tests setup t event h turn configurations promises answers choice 
       where
         go : Splits t.now.history a.out.notes earlier (notes.ReadValue name version value) later → Tells earlier name version value
         go (InFirst rest q more) = turn.before.readings.each earlier rest name version value q
-        go (InSecond front before notes) =
-            let r : IsRead a.node front name version value = acting_reads tests setup.version a.node a.input a.out front name version value later a.effect notes in
-            let now : earlier ≡ t.now.history = before ∙ ap (λ ns. t.now.history ++ ns) r.first ∙ append-nil t.now.history in
+        go (InSecond front before noted) =
+            let l : IsLast a.out.notes front (notes.ReadValue name version value) = is_last a.out.notes front (notes.ReadValue name version value) later (effect-one tests setup.version a.node a.input a.out a.effect) noted in
+            let r : IsRead a.node name version value = acting_reads tests setup.version a.node a.input a.out name version value a.effect l.only in
+            let now : earlier ≡ t.now.history = before ∙ ap (λ ns. t.now.history ++ ns) l.nothing ∙ append-nil t.now.history in
             subst (λ h. Tells h name version value) (sym now)
             (subst (λ v. Tells t.now.history name v value) (sym r.of_version)
             (subst (λ x. Tells t.now.history name (read_of a.node.rows name).version x) (sym r.of_value) (read_tells tests setup t a.node name turn.before a.is)))
