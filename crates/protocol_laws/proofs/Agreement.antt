@@ -1,4 +1,4 @@
--- Agreement: all decisions of a transaction are equal, shard and cause included; and what is decided has begun.
+-- Agreement: all decisions of a transaction are equal, shard and cause included.
 use Rattle.std.proofs.Common.{◌≡◌, Bool, true, false, cond, List, [], ◌∷◌, map, find, Some, is_some, inl, inr, sym, ◌∙◌, ap, subst, refl}
 use Rattle.tcs_terms.specs.declared.ids.TxId.{TxId}
 use Rattle.tcs_terms.specs.declared.inputs.Note.TheVariants.{Decide}
@@ -42,10 +42,6 @@ same_decision (p ∷ ps) (q ∷ qs) h e =
 -- a transaction begins with one payload
 one_payload : (t : Moment) (txn : TxId) (a b : Accesses) → IsBegun t txn a → IsBegun t txn b → a ≡ b
 one_payload t txn a b p q = cc (p.first, q.first)
-
--- what is decided has begun
-pub decided-HasBegun : (tests : Tests) (setup : Deployment) (t : Moment) (txn : TxId) (decision : Decision) → InvariantHolds tests setup t → WasNoted t (Decide txn decision) → HasBegun t txn
-decided-HasBegun tests setup t txn decision i n = let d : IsDecidedBy setup.shards t txn decision = i.decisions.decided txn decision n in (d.payload, d.begun)
 
 -- all decisions of a transaction are equal
 pub agreement : (tests : Tests) (setup : Deployment) (t : Moment) (txn : TxId) (a b : Decision) → InvariantHolds tests setup t → WasNoted t (Decide txn a) → WasNoted t (Decide txn b) → a ≡ b

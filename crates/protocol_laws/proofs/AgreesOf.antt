@@ -1,5 +1,5 @@
--- Agreement in a history, from what holds at its end.
-use Rattle.std.proofs.Common.{◌≡◌, Bool, true, false, not, List, ◌∷◌, ◌++◌, ◌||◌, ◌==◌, inl, sym, ap, subst, refl, eq-eqb}
+-- Agreement, as a test of a history: all decisions of a transaction are equal, each after its beginning.
+use Rattle.std.proofs.Common.{◌≡◌, Bool, true, false, not, List, ◌∷◌, ◌++◌, ◌||◌, ◌==◌, inl, sym, ap, subst, refl, eq-eqb, ℕ, is_some}
 use Rattle.std.specs.List.{list_all}
 use Rattle.tcs_terms.specs.declared.ids.TxId.{TxId}
 use Rattle.tcs_terms.specs.declared.inputs.Note.{Note}
@@ -17,6 +17,8 @@ use Rattle.protocol_laws.proofs.BegunFirst.{BegunFirst}
 use Rattle.protocol_laws.proofs.Standing.{StandsIn-left, StandsIn-right, all-from}
 use Rattle.protocol_laws.proofs.WithPast.{all-with_past}
 use Rattle.protocol_laws.proofs.SameTxn.{same_txn-eq, same_txn-self}
+use Rattle.protocol_laws.proofs.HistoryKept.{DecisionStands, HistoryHolds}
+use Rattle.tcs_laws.specs.Certification.{Tests}
 
 -- a cause and a decision are one with themselves
 same_cause-self : (c : Cause) → same_cause c c ≡ true
@@ -26,19 +28,6 @@ same_cause-self Lost = refl
 same_decision-self : (d : Decision) → same_decision d d ≡ true
 same_decision-self Commit = refl
 same_decision-self (Abort shard cause) = both (shard == shard) (same_cause cause cause) (eq-eqb shard shard refl) (same_cause-self cause)
-
--- each decision is equal to those of its transaction that stand before it
-pub record AgreeEarlier (h : List Note) : Type 0 where
-  pub each : (before : List Note) (txn : TxId) (decision : Decision) (after : List Note) → h ≡ before ++ (Decide txn decision ∷ after) → (other : Decision) → StandsIn (Decide txn other) before → other ≡ decision
-
--- where all decisions of one transaction are equal, each is to the earlier ones
-pub agree_earlier : (h : List Note) → ((txn : TxId) (a b : Decision) → StandsIn (Decide txn a) h → StandsIn (Decide txn b) h → a ≡ b) → AgreeEarlier h
-agree_earlier h once = record { each = each }
-  where
-    each : (before : List Note) (txn : TxId) (decision : Decision) (after : List Note) → h ≡ before ++ (Decide txn decision ∷ after) → (other : Decision) → StandsIn (Decide txn other) before → other ≡ decision
-    each before txn decision after e other s = once txn other decision
-        (subst (λ ns. StandsIn (Decide txn other) ns) (sym e) (StandsIn-left before (Decide txn decision ∷ after) (Decide txn other) s))
-        (subst (λ ns. StandsIn (Decide txn decision) ns) (sym e) (StandsIn-right before (Decide txn decision ∷ after) (Decide txn decision) (inl refl)))
 
 agrees_with-of : (txn : TxId) (decision : Decision) (n : Note) → ((other : Decision) → n ≡ Decide txn other → other ≡ decision) → agrees_with txn decision n ≡ true
 agrees_with-of txn decision (Begin other payload) h = refl
@@ -50,13 +39,14 @@ agrees_with-of txn decision (Decide other d) h = go (same_txn other txn) refl
     go false e = refl
     go true e = let same : d ≡ decision = h d (ap (λ t. Decide t d) (same_txn-eq other txn e)) in subst (λ x. same_decision d x ≡ true) same (same_decision-self d)
 
-agrees_after-of : (h before : List Note) (n : Note) (after : List Note) → BegunFirst h → AgreeEarlier h → h ≡ before ++ (n ∷ after) → agrees_after before n ≡ true
-agrees_after-of h before (Begin txn payload) after b a e = refl
-agrees_after-of h before (Take txn) after b a e = refl
-agrees_after-of h before (ReadValue name version value) after b a e = refl
-agrees_after-of h before (Decide txn decision) after b a e =
-    both (has_begun before txn) (list_all (agrees_with txn decision) before) (b.each before txn decision after e)
-    (all-from (agrees_with txn decision) before (λ n s. agrees_with-of txn decision n (λ other k. a.each before txn decision after e other (subst (λ m. StandsIn m before) k s))))
+agrees_after-of : (tests : Tests) (n : ℕ) (h before : List Note) (note : Note) (after : List Note) → HistoryHolds tests n h → h ≡ before ++ (note ∷ after) → agrees_after before note ≡ true
+agrees_after-of tests n h before (Begin txn payload) after holds e = refl
+agrees_after-of tests n h before (Take txn) after holds e = refl
+agrees_after-of tests n h before (ReadValue name version value) after holds e = refl
+agrees_after-of tests n h before (Decide txn decision) after holds e =
+    let d : DecisionStands tests n before txn decision = holds.each before after txn decision e in
+    both (has_begun before txn) (list_all (agrees_with txn decision) before) (ap is_some d.begun)
+    (all-from (agrees_with txn decision) before (λ m s. agrees_with-of txn decision m (λ other k. d.agrees other (subst (λ x. StandsIn x before) k s))))
 
-pub agrees-of : (h : List Note) → BegunFirst h → AgreeEarlier h → agrees h ≡ true
-agrees-of h b a = all-with_past (λ e. agrees_after e.0 e.1) h (λ before n after e. agrees_after-of h before n after b a e)
+pub agrees-of : (tests : Tests) (n : ℕ) (h : List Note) → HistoryHolds tests n h → agrees h ≡ true
+agrees-of tests n h holds = all-with_past (λ e. agrees_after e.0 e.1) h (λ before note after e. agrees_after-of tests n h before note after holds e)

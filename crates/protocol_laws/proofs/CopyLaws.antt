@@ -6,7 +6,7 @@ use Rattle.tcs_terms.specs.Setups.{Deployment}
 use Rattle.tcs_laws.specs.Certification.{Tests}
 use Rattle.tcs_laws.specs.Laws.{ChecksReads, IsLawful, OrdersWrites}
 use Rattle.protocol.specs.History.{payloads_of}
-use Rattle.protocol.specs.Invariant.Time.{StandsIn}
+use Rattle.protocol.specs.Invariant.Time.{StandsIn, time_after}
 use Rattle.protocol.specs.OneCopy.{is_honest, is_one_copy}
 use Rattle.protocol.specs.Run.{run}
 use Rattle.protocol.specs.World.{first_world}
@@ -14,7 +14,7 @@ use Rattle.protocol_laws.specs.Rising.{VersionsRise}
 use Rattle.protocol_laws.specs.Runs.{AreEvents, HandInPayloads}
 use Rattle.protocol_laws.proofs.BegunFirst.{BegunFirst, begun_first}
 use Rattle.protocol_laws.proofs.CorrectOrder.{HaveFormed}
-use Rattle.protocol_laws.proofs.HistoryAt.{formed_at}
+use Rattle.protocol_laws.proofs.HistoryAt.{formed_at, remembers_at}
 use Rattle.protocol_laws.proofs.CopyTells.{TellsWritten}
 use Rattle.protocol_laws.proofs.HistoryLaws.{of_run, run_is_legal}
 use Rattle.protocol_laws.proofs.LegalOrder.{payloads-append, payloads-first}
@@ -43,5 +43,5 @@ pub run_is_one_copy : (tests : Tests) (setup : Deployment) (events : List Event)
     → is_honest (run tests setup events).history ≡ true → is_one_copy (run tests setup events).history ≡ true
 run_is_one_copy tests setup events lawful c a p honest =
     one_copy-of tests (run tests setup events).history (legal_at tests setup events lawful a p)
-    (of_run tests setup events BegunFirst (begun_first tests setup events a))
+    (of_run tests setup events BegunFirst (begun_first tests setup.shards (time_after tests setup events).now.history (remembers_at tests setup events a).history))
     (of_run tests setup events TellsWritten (invariant_at tests setup events a).readings.each) c honest

@@ -17,6 +17,7 @@ use Rattle.protocol_laws.proofs.Standing.{all-from, StandsIn-right}
 use Rattle.protocol_laws.proofs.WithPast.{all-with_past}
 use Rattle.protocol_laws.proofs.LegalOrder.{IsPayloadOf, payload-of}
 use Rattle.protocol_laws.proofs.KeepsTime.{decided-begun}
+use Rattle.protocol_laws.proofs.BegunFirst.{begun_first}
 
 -- what was decided in a front of a history began in that front
 record BeganIn (earlier : List Note) (txn : TxId) : Type 0 where
@@ -24,7 +25,7 @@ record BeganIn (earlier : List Note) (txn : TxId) : Type 0 where
   begun : payload_in earlier txn ≡ Some payload
 
 committed-began : (tests : Tests) (n : ℕ) (h earlier later : List Note) (txn : TxId) → HistoryHolds tests n h → h ≡ earlier ++ later → StandsIn (Decide txn Commit) earlier → BeganIn earlier txn
-committed-began tests n h earlier later txn holds e s = began (payload_in earlier txn) refl (decided-begun h earlier later txn (record { each = λ before u decision after q. ap is_some (holds.each before after u decision q).begun }) e s)
+committed-began tests n h earlier later txn holds e s = began (payload_in earlier txn) refl (decided-begun h earlier later txn (begun_first tests n h holds) e s)
   where
     began : (o : Option Accesses) → payload_in earlier txn ≡ o → is_some o ≡ true → BeganIn earlier txn
     began None q k = absurd (cc k)

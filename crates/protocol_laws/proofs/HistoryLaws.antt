@@ -17,7 +17,7 @@ use Rattle.protocol.specs.FoundNothing.{found_nothing}
 use Rattle.protocol.specs.Run.{run}
 use Rattle.protocol_laws.specs.Runs.{AreEvents, HandInPayloads}
 use Rattle.protocol_laws.proofs.Agreement.{agreement}
-use Rattle.protocol_laws.proofs.AgreesOf.{agree_earlier, agrees-of}
+use Rattle.protocol_laws.proofs.AgreesOf.{agrees-of}
 use Rattle.protocol_laws.proofs.BegunFirst.{begun_first}
 use Rattle.protocol_laws.proofs.CorrectNotes.{history-clashes, history-loses}
 use Rattle.protocol_laws.proofs.CorrectOrder.{history-legal}
@@ -32,14 +32,11 @@ of_run tests setup events P p = subst (λ w. P w.history) (time_after-now tests 
 
 pub run_agrees : (tests : Tests) (setup : Deployment) (events : List Event) → AreEvents setup events → agrees (run tests setup events).history ≡ true
 run_agrees tests setup events a =
-    let i : InvariantHolds tests setup (time_after tests setup events) = invariant_at tests setup events a in
-    of_run tests setup events (λ h. agrees h ≡ true)
-    (agrees-of (time_after tests setup events).now.history (begun_first tests setup events a)
-    (agree_earlier (time_after tests setup events).now.history (λ txn x y m n. agreement tests setup (time_after tests setup events) txn x y i m n)))
+    of_run tests setup events (λ h. agrees h ≡ true) (agrees-of tests setup.shards (time_after tests setup events).now.history (remembers_at tests setup events a).history)
 
 pub run_keeps_time : (tests : Tests) (setup : Deployment) (events : List Event) → AreEvents setup events → keeps_time (run tests setup events).history ≡ true
 run_keeps_time tests setup events a =
-    of_run tests setup events (λ h. keeps_time h ≡ true) (keeps_time-of (time_after tests setup events).now.history (begun_first tests setup events a))
+    of_run tests setup events (λ h. keeps_time h ≡ true) (keeps_time-of (time_after tests setup events).now.history (begun_first tests setup.shards (time_after tests setup events).now.history (remembers_at tests setup events a).history))
 
 pub run_names_clashes : (tests : Tests) (setup : Deployment) (events : List Event) → IsLawful tests → AreEvents setup events → names_clashes tests setup.shards (run tests setup events).history ≡ true
 run_names_clashes tests setup events lawful a =
