@@ -26,6 +26,7 @@ use Rattle.protocol_laws.proofs.CaseParts.{part_is, IsPartOf}
 use Rattle.protocol_laws.proofs.TransactionsActing.{IsActing}
 use Rattle.protocol_laws.proofs.ByTransaction.{lookup-StandsIn}
 use Rattle.protocol_laws.proofs.EntriesCases.{voted_case-holds, acknowledged_case-holds, CasesHold}
+use Rattle.protocol_laws.proofs.EntriesAnswered.{listed_at-Listed}
 
 -- whoever acknowledged a listed entry held that entry; where all followers did, it is accepted
 all_held : (tests : Tests) (setup : Deployment) (t : Moment) (txn : TxId) (v : Membership) (entry : Preparation) (acks : List ℕ) → InvariantHolds tests setup t → IsStored t v → Listed t v entry
@@ -80,8 +81,7 @@ pub votes_hold : (tests : Tests) (setup : Deployment) (t u : Moment) (node : Nod
 votes_hold tests setup t u node input out from shard epoch entry case part view a e o at =
     let l : ListedAt t shard epoch entry = a.before.entries.answered from node.name shard epoch entry (a.received from (PrepareAck shard epoch entry) e) in
     let v : IsView t shard view = view_is setup t node shard view a.before.configurations a.is o.sees in
-    let same : l.config ≡ view = one_config setup t l.config view a.before.configurations l.stored v.stored (l.of_shard ∙ sym v.of_shard) (l.of_epoch ∙ sym at) in
-    voted_case-holds t node.coordinator shard entry case part view (old_cases tests setup t u node input out a) o (λ none. subst (λ x. Listed t x entry) same l.listed)
+    voted_case-holds t node.coordinator shard entry case part view (old_cases tests setup t u node input out a) o (λ none. listed_at-Listed setup t shard epoch entry view a.before.configurations l v.stored v.of_shard at)
 
 pub acknowledges_hold : (tests : Tests) (setup : Deployment) (t u : Moment) (node : NodeRecord) (input : Input) (out : Out NodeRecord) (from shard epoch slot : ℕ) (txn : TxId) (case : Case) (part : Part) (view : Membership)
     → IsActing tests setup t u node input out → input ≡ inputs.Deliver from (AcceptAck shard epoch slot txn) → OpenPart node.coordinator txn shard case part view → view.epoch ≡ epoch → voted_at part.entry slot ≡ true

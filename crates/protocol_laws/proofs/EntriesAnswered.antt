@@ -40,6 +40,12 @@ listed_at-on t u shard epoch x onward l = record { config = l.config; stored = o
 pub held_at-on : (t u : Moment) (epoch name slot : ℕ) (txn : TxId) → Onward t u → HeldAt t epoch name slot txn → HeldAt u epoch name slot txn
 held_at-on t u epoch name slot txn onward k = record { entry = k.entry; held = held-on t u epoch name k.entry onward k.held; at_slot = k.at_slot; of_txn = k.of_txn }
 
+-- what is listed in the configuration of a shard and epoch is listed in whichever stored one is of them
+pub listed_at-Listed : (setup : Deployment) (t : Moment) (shard epoch : ℕ) (x : Preparation) (v : Membership) → ConfigurationsHold setup t → ListedAt t shard epoch x → IsStored t v → v.shard ≡ shard → v.epoch ≡ epoch → Listed t v x
+listed_at-Listed setup t shard epoch x v k l s p q =
+    let same : l.config ≡ v = one_config setup t l.config v k l.stored s (l.of_shard ∙ sym p) (l.of_epoch ∙ sym q) in
+    subst (λ (d : Membership). Listed t d x) same l.listed
+
 -- what holds of a voted part, at its view
 voted_part : (t : Moment) (txn : TxId) (views : List Membership) (part : Part) (view : Membership) (entry : Preparation) → PartHolds t txn (view_of views part.shard) part.entry part.acks → view_of views part.shard ≡ Some view → part.entry ≡ Some entry
     → PartHolds t txn (Some view) (Some entry) part.acks
@@ -142,9 +148,8 @@ module _ (tests : Tests) (setup : Deployment) (t : Moment) (event : Event) (h : 
       by None e =
           let sent : WasSent t v.from a.node.name (PrepareAck v.shard view.epoch v.answered) = delivered setup t a.node.name event a.input a.comes turn.fits v.from (PrepareAck v.shard view.epoch v.answered) v.delivers in
           let l : ListedAt t v.shard view.epoch v.answered = turn.before.entries.answered v.from a.node.name v.shard view.epoch v.answered sent in
-          let same : l.config ≡ view = one_config setup t l.config view turn.before.configurations l.stored seen.stored (l.of_shard ∙ sym seen.of_shard) l.of_epoch in
           let is : v.answered ≡ x = sym (v.is ∙ ap (λ (o : Option Preparation). first_entry o v.answered) e) in
-          (seen.stored, subst (λ (y : Preparation). Listed t view y) is (subst (λ (d : Membership). Listed t d v.answered) same l.listed))
+          (seen.stored, subst (λ (y : Preparation). Listed t view y) is (listed_at-Listed setup t v.shard view.epoch v.answered view turn.before.configurations l seen.stored seen.of_shard refl))
       by (Some kept) e =
           let c : CaseHolds t a.node.coordinator.views v.answered.txn v.case = turn.before.entries.cases a.node v.answered.txn v.case a.is (lookup-StandsIn v.answered.txn a.node.coordinator.cases v.case v.is_open.opened) in
           let sees : view_of a.node.coordinator.views v.part.shard ≡ Some view = ap (λ n. view_of a.node.coordinator.views n) (eqb-true v.part.shard v.shard found.1) ∙ v.is_open.sees in
