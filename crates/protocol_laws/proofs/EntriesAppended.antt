@@ -26,9 +26,9 @@ use Rattle.protocol.specs.World.{Happening}
 use Rattle.protocol_laws.specs.Turn.{Turn, Onward}
 use Rattle.protocol_laws.proofs.Lasting.{one_node, is_in-now}
 use Rattle.protocol_laws.proofs.EntriesListed.{LeadsHolding, LeadsFrom, LeaderNow, in_its_rows, leads_from, listed_how, appending_now}
-use Rattle.protocol_laws.proofs.EntriesRows.{entry-upto_last, row-upto_last, row-none}
+use Rattle.protocol_laws.proofs.LogRows.{entry-upto_last, row-upto_last, row-none, joined-entries}
 use Rattle.protocol_laws.proofs.TransferEnters.{Leading}
-use Rattle.protocol_laws.proofs.TransferHeld.{Appending, joined-entries}
+use Rattle.protocol_laws.proofs.TransferHeld.{Appending}
 use Rattle.protocol_laws.proofs.TransferInitial.{no_initial}
 
 -- a decision that has this sense

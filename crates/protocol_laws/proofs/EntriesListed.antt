@@ -17,7 +17,7 @@ use Rattle.protocol.specs.Records.Role.{Leader}
 use Rattle.protocol.specs.World.{Happening}
 use Rattle.protocol_laws.specs.Turn.{Turn, Onward}
 use Rattle.protocol_laws.proofs.Lasting.{is_in-now}
-use Rattle.protocol_laws.proofs.EntriesRows.{rows-slot, rows-txn}
+use Rattle.protocol_laws.proofs.LogRows.{rows-slot, rows-txn}
 use Rattle.protocol_laws.proofs.Stored.{stored-some, leads_member}
 use Rattle.protocol_laws.proofs.TransferEnters.{LeadsAs, Leading, Following}
 use Rattle.protocol_laws.proofs.TransferHandedOn.{leader_state}

@@ -48,7 +48,7 @@ pub mod EntriesCasesKept
 pub mod EntriesKept
 pub mod EntriesListed
 pub mod EntriesListsKept
-pub mod EntriesRows
+pub mod LogRows
 pub mod FoundInRun
 pub mod Fronts
 pub mod GrowsOf

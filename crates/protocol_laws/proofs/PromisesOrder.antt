@@ -14,6 +14,7 @@ use Rattle.protocol.proofs.Lists.{StandsIn-append}
 use Rattle.protocol_laws.proofs.Standing.{StandsIn-left, IsMapped, map-StandsIn}
 use Rattle.protocol_laws.proofs.SameTxn.{same_txn-eq}
 use Rattle.protocol_laws.proofs.Ascending.{tail-ascends, tail-above, txn_apart}
+use Rattle.protocol_laws.proofs.LogRows.{filtered-StandsIn}
 
 -- a slot in its range
 abbrev pub slot_fits : Preparation → Bool
@@ -96,15 +97,6 @@ in_order-left (x ∷ xs) ys o = (before-fewer x (xs ++ ys) xs (StandsIn-left xs 
 pub in_order-right : (xs ys : List Preparation) → InOrder (xs ++ ys) → InOrder ys
 in_order-right [] ys o = o
 in_order-right (x ∷ xs) ys o = in_order-right xs ys o.1
-
-pub filtered-StandsIn : (p : Row → Bool) (rows : List Row) (y : Preparation) → StandsIn y (entries_of (filter p rows)) → StandsIn y (entries_of rows)
-filtered-StandsIn p [] y s = s
-filtered-StandsIn p (r ∷ rs) y s = go (p r) s (filtered-StandsIn p rs y)
-  where
-    go : (b : Bool) → StandsIn y (entries_of (cond b (r ∷ filter p rs) (filter p rs))) → (StandsIn y (entries_of (filter p rs)) → StandsIn y (entries_of rs)) → StandsIn y (entries_of (r ∷ rs))
-    go true (inl e) ih = inl e
-    go true (inr q) ih = inr (ih q)
-    go false q ih = inr (ih q)
 
 -- what passes a test
 pub in_order-filter : (p : Row → Bool) (rows : List Row) → InOrder (entries_of rows) → InOrder (entries_of (filter p rows))

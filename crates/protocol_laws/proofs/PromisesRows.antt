@@ -11,29 +11,10 @@ use Rattle.tcs_terms.proofs.BoolLaws.{both, neither_right}
 use Rattle.protocol.specs.Log.{row_of, row_at, last_slot, slot_or_zero, is_full, undecided, has_at, is_taken, accepted, put_entry}
 use Rattle.protocol.specs.Invariant.Logs.{entries_of}
 use Rattle.protocol.specs.Invariant.Time.{StandsIn}
-use Rattle.protocol_laws.proofs.PromisesOrder.{slot_fits, InOrder, rows-in_order, in_order-rows, in_order-join, in_order-filter, filtered-StandsIn, in_order-apart}
+use Rattle.protocol_laws.proofs.PromisesOrder.{slot_fits, InOrder, rows-in_order, in_order-rows, in_order-join, in_order-filter, in_order-apart}
 use Rattle.protocol_laws.proofs.Standing.{IsMapped, map-StandsIn, find-none, is-none}
 use Rattle.protocol_laws.proofs.SameTxn.{same_txn-self}
-
--- a transaction without a row is that of no entry
-no_row : (rows : List Row) (txn : TxId) → row_of rows txn ≡ None → (y : Preparation) → StandsIn y (entries_of rows) → y.txn ≡ txn → ⊥
-no_row rows txn h y s e =
-    let r : IsMapped (λ q. q.entry) rows y = map-StandsIn (λ q. q.entry) rows y s in
-    let f : same_txn r.from.entry.txn txn ≡ false = find-none (λ q. same_txn q.entry.txn txn) rows r.from h r.there in
-    let t : same_txn r.from.entry.txn txn ≡ true = subst (λ x. same_txn x txn ≡ true) (sym e ∙ ap (λ m. m.txn) r.is) (same_txn-self txn) in
-    cc (f, t)
-
--- the last slot is the greatest
-last-greatest : (o : Option Row) (rows : List Row) → InOrder (entries_of rows) → (y : Preparation) → StandsIn y (entries_of rows) → y.slot ≤ slot_or_zero (last_or o rows)
-last-greatest o [] k y s = absurd s
-last-greatest o (r ∷ []) k y (inl e) = let q : y.slot ≡ r.entry.slot = ap (λ m. m.slot) e in omega (arith, q)
-last-greatest o (r ∷ []) k y (inr s) = absurd s
-last-greatest o (r ∷ q ∷ rs) k y (inl e) =
-    let p : y.slot ≡ r.entry.slot = ap (λ m. m.slot) e in
-    let l : r.entry.slot < q.entry.slot = k.0.lower q.entry (inl refl) in
-    let m : q.entry.slot ≤ slot_or_zero (last_or (Some r) (q ∷ rs)) = last-greatest (Some r) (q ∷ rs) k.1 q.entry (inl refl) in
-    omega (arith, p, l, m)
-last-greatest o (r ∷ q ∷ rs) k y (inr s) = last-greatest (Some r) (q ∷ rs) k.1 y s
+use Rattle.protocol_laws.proofs.LogRows.{filtered-StandsIn, entry-none, entry-upto_last, filtered-row}
 
 one-in_order : (x : Preparation) → slot_fits x ≡ true → InOrder (x ∷ [])
 one-in_order x f = (record { fits = f; lower = λ y s. absurd s; apart = λ y s e. absurd s }, tt)
@@ -50,29 +31,21 @@ appended-rows rows x a n f e =
   where
     go : (y z : Preparation) → StandsIn y (entries_of rows) → StandsIn z (x ∷ []) → (y.slot < z.slot) × (y.txn ≡ z.txn → ⊥)
     go y z s (inl q) =
-        let l : y.slot ≤ last_slot rows = last-greatest None rows (rows-in_order rows a) y s in
+        let l : y.slot ≤ last_slot rows = entry-upto_last rows a y s in
         let k : z.slot ≡ x.slot = ap (λ m. m.slot) q in
-        (omega (arith, l, k, e), λ p. no_row rows x.txn n y s (p ∙ ap (λ m. m.txn) q))
+        (omega (arith, l, k, e), λ p. entry-none rows x.txn n y s (p ∙ ap (λ m. m.txn) q))
     go y z s (inr q) = absurd q
 
 -- what is below a slot, and above it
 below : (slot : ℕ) (rows : List Row) (y : Preparation) → StandsIn y (entries_of (filter (λ r. nat_lt r.entry.slot slot) rows)) → y.slot < slot
-below slot [] y s = absurd s
-below slot (r ∷ rs) y s = go (nat_lt r.entry.slot slot) refl s (below slot rs y)
-  where
-    go : (b : Bool) → nat_lt r.entry.slot slot ≡ b → StandsIn y (entries_of (cond b (r ∷ filter (λ q. nat_lt q.entry.slot slot) rs) (filter (λ q. nat_lt q.entry.slot slot) rs))) → (StandsIn y (entries_of (filter (λ q. nat_lt q.entry.slot slot) rs)) → y.slot < slot) → y.slot < slot
-    go true e (inl p) ih = let k : y.slot ≡ r.entry.slot = ap (λ m. m.slot) p in omega (arith, k, ltb-true r.entry.slot slot e)
-    go true e (inr q) ih = ih q
-    go false e q ih = ih q
+below slot rows y s =
+    let r : (r : Row) × StandsIn r rows × (nat_lt r.entry.slot slot ≡ true) × (y ≡ r.entry) = filtered-row (λ r. nat_lt r.entry.slot slot) rows y s in
+    subst (λ (z : Preparation). z.slot < slot) (sym r.3) (ltb-true r.0.entry.slot slot r.2)
 
 above : (slot : ℕ) (rows : List Row) (y : Preparation) → StandsIn y (entries_of (filter (λ r. nat_lt slot r.entry.slot) rows)) → slot < y.slot
-above slot [] y s = absurd s
-above slot (r ∷ rs) y s = go (nat_lt slot r.entry.slot) refl s (above slot rs y)
-  where
-    go : (b : Bool) → nat_lt slot r.entry.slot ≡ b → StandsIn y (entries_of (cond b (r ∷ filter (λ q. nat_lt slot q.entry.slot) rs) (filter (λ q. nat_lt slot q.entry.slot) rs))) → (StandsIn y (entries_of (filter (λ q. nat_lt slot q.entry.slot) rs)) → slot < y.slot) → slot < y.slot
-    go true e (inl p) ih = let k : y.slot ≡ r.entry.slot = ap (λ m. m.slot) p in omega (arith, k, ltb-true slot r.entry.slot e)
-    go true e (inr q) ih = ih q
-    go false e q ih = ih q
+above slot rows y s =
+    let r : (r : Row) × StandsIn r rows × (nat_lt slot r.entry.slot ≡ true) × (y ≡ r.entry) = filtered-row (λ r. nat_lt slot r.entry.slot) rows y s in
+    subst (λ (z : Preparation). slot < z.slot) (sym r.3) (ltb-true slot r.0.entry.slot r.2)
 
 -- an entry put in its place
 put-rows : (rows : List Row) (x : Preparation) → AreRows rows → row_of rows x.txn ≡ None → slot_fits x ≡ true → AreRows (put_entry rows x)
@@ -84,7 +57,7 @@ put-rows rows x a n f =
       record {
         fits = f;
         lower = λ y s. above x.slot rows y s;
-        apart = λ y s e. no_row rows x.txn n y (filtered-StandsIn high rows y s) (sym e);
+        apart = λ y s e. entry-none rows x.txn n y (filtered-StandsIn high rows y s) (sym e);
       },
       in_order-filter high rows o,
     ) in
@@ -95,7 +68,7 @@ put-rows rows x a n f =
     go o y z s (inl e) =
         let l : y.slot < x.slot = below x.slot rows y s in
         let k : z.slot ≡ x.slot = ap (λ m. m.slot) e in
-        (omega (arith, l, k), λ p. no_row rows x.txn n y (filtered-StandsIn (λ r. nat_lt r.entry.slot x.slot) rows y s) (p ∙ ap (λ m. m.txn) e))
+        (omega (arith, l, k), λ p. entry-none rows x.txn n y (filtered-StandsIn (λ r. nat_lt r.entry.slot x.slot) rows y s) (p ∙ ap (λ m. m.txn) e))
     go o y z s (inr r) =
         let l : y.slot < x.slot = below x.slot rows y s in
         let k : x.slot < z.slot = above x.slot rows z r in

@@ -22,6 +22,7 @@ use Rattle.protocol_laws.proofs.TransferPieces.{with_piece-StandsIn, same_config
 use Rattle.protocol_laws.specs.Effect.{Effect}
 use Rattle.protocol_laws.specs.Effect.Effect.{Appends, Accepts, Marks, Leads, Follows, FollowsPieces}
 use Rattle.protocol_laws.proofs.Standing.{IsMapped, map-StandsIn, filter-StandsIn, IsPiece, flat_map-StandsIn}
+use Rattle.protocol_laws.proofs.LogRows.{accepted_came}
 
 -- A row that a node has after an input: it was there, got a mark, or came with the input or a piece that was kept.
 pub data RowCame (tests : Tests) (node new : NodeRecord) (r : Row) : Input → Type 0 where
@@ -57,21 +58,6 @@ piece_came (Some g) config pieces piece p s = go (is_gathering_of g config) refl
     go : (b : Bool) → is_gathering_of g config ≡ b → StandsIn p (with_one_more (cond b g (begun config pieces)) piece).kept → PieceCame (Some g) config piece p
     go true e k = elim (one_more_came g piece p k) [ inr q ↦ IsNewPiece q | inl q ↦ IsOldPiece g refl q (ap (λ (c : Membership). c.shard) (same_config-is g.config config e)) (ap (λ (c : Membership). c.epoch) (same_config-is g.config config e)) ]
     go false e k = elim (one_more_came (begun config pieces) piece p k) [ inr q ↦ IsNewPiece q | inl q ↦ absurd q ]
-
--- a row among those that a follower accepted an entry into
-accepted_came : (rows : List Row) (entry : Preparation) (r : Row) → StandsIn r (accepted rows entry) → StandsIn r rows ⊎ (r ≡ undecided entry)
-accepted_came rows entry r s = go (has_at rows entry.slot entry.txn) s
-  where
-    put : StandsIn r (put_entry rows entry) → StandsIn r rows ⊎ (r ≡ undecided entry)
-    put s = elim (StandsIn-append (filter (λ q. nat_lt q.entry.slot entry.slot) rows) (undecided entry ∷ filter (λ q. nat_lt entry.slot q.entry.slot) rows) r s) [
-      | inl k ↦ inl (filter-StandsIn (λ (q : Row). nat_lt q.entry.slot entry.slot) rows r k).0
-      | inr (inl e) ↦ inr e
-      | inr (inr k) ↦ inl (filter-StandsIn (λ (q : Row). nat_lt entry.slot q.entry.slot) rows r k).0
-    ]
-
-    go : (b : Bool) → StandsIn r (cond b rows (put_entry rows entry)) → StandsIn r rows ⊎ (r ≡ undecided entry)
-    go true k = inl k
-    go false k = put k
 
 -- a row among those in which a slot was marked
 record IsMarked (rows : List Row) (slot : ℕ) (commit : Bool) (r : Row) : Type 0 where

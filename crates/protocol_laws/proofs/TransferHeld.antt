@@ -28,31 +28,12 @@ use Rattle.protocol_laws.specs.Turn.{Turn, Onward}
 use Rattle.protocol_laws.proofs.ConfigurationsInputs.{delivered}
 use Rattle.protocol_laws.proofs.EntriesKept.{entries_of-marked}
 use Rattle.protocol_laws.proofs.Lasting.{HoldsNow, held-back, is_in-now}
-use Rattle.protocol_laws.proofs.PromisesOrder.{filtered-StandsIn}
 use Rattle.protocol_laws.proofs.Stored.{one_config, stored-some, member_shard}
 use Rattle.protocol_laws.proofs.Came.{node_back, IsOfActing, effect_name, effect_shard}
 use Rattle.protocol_laws.proofs.TransferEnters.{enters, EntersAs}
 use Rattle.protocol_laws.proofs.TransferReached.{Enters, entered}
 use Rattle.protocol_laws.proofs.ConfigurationsHad.{had}
-
--- the entries of rows joined
-pub joined-entries : (xs ys : List Row) (x : Preparation) → StandsIn x (entries_of (xs ++ ys)) → StandsIn x (entries_of xs) ⊎ StandsIn x (entries_of ys)
-joined-entries [] ys x s = inr s
-joined-entries (r ∷ rs) ys x (inl e) = inl (inl e)
-joined-entries (r ∷ rs) ys x (inr s) = elim (joined-entries rs ys x s) [ inl k ↦ inl (inr k) | inr k ↦ inr k ]
-
--- what is in rows that accepted an entry was there, or is the entry
-accepted-StandsIn : (rows : List Row) (entry x : Preparation) → StandsIn x (entries_of (accepted rows entry)) → StandsIn x (entries_of rows) ⊎ (x ≡ entry)
-accepted-StandsIn rows entry x s = go (has_at rows entry.slot entry.txn) s
-  where
-    put : StandsIn x (entries_of (filter (λ (r : Row). nat_lt r.entry.slot entry.slot) rows)) ⊎ StandsIn x (entry ∷ entries_of (filter (λ (r : Row). nat_lt entry.slot r.entry.slot) rows)) → StandsIn x (entries_of rows) ⊎ (x ≡ entry)
-    put (inl k) = inl (filtered-StandsIn (λ (r : Row). nat_lt r.entry.slot entry.slot) rows x k)
-    put (inr (inl e)) = inr e
-    put (inr (inr k)) = inl (filtered-StandsIn (λ (r : Row). nat_lt entry.slot r.entry.slot) rows x k)
-
-    go : (b : Bool) → StandsIn x (entries_of (cond b rows (put_entry rows entry))) → StandsIn x (entries_of rows) ⊎ (x ≡ entry)
-    go true k = inl k
-    go false k = put (joined-entries (filter (λ (r : Row). nat_lt r.entry.slot entry.slot) rows) (undecided entry ∷ filter (λ (r : Row). nat_lt entry.slot r.entry.slot) rows) x k)
+use Rattle.protocol_laws.proofs.LogRows.{joined-entries, accepted-StandsIn}
 
 -- a node takes an entry that it is sent to accept
 record TakesEntry (node : NodeRecord) (input : Input) (x : Preparation) : Type 0 where

@@ -1,5 +1,6 @@
--- Rows of a log: an entry is found by its slot, and by its transaction.
-use Rattle.std.proofs.Common.{◌≡◌, ℕ, ◌<◌, ◌≤◌, true, false, nat_lt, List, [], ◌∷◌, map, Some, None, inl, inr, sym, ◌∙◌, ap, subst, refl, arith, ltb-true}
+-- Rows of a log: an entry is found by its slot and by its transaction, none is above the last slot, and where the entries
+-- of rows that are joined, filtered or accepted come from.
+use Rattle.std.proofs.Common.{◌≡◌, ℕ, ◌<◌, ◌≤◌, true, false, nat_lt, List, [], ◌∷◌, map, Some, None, inl, inr, sym, ◌∙◌, ap, subst, refl, arith, ltb-true, Bool, cond, filter, ◌++◌, ◌⊎◌}
 use Rattle.std.specs.List.{last_or}
 use Rattle.tcs_terms.specs.declared.ids.TxId.{TxId}
 use Rattle.tcs_terms.specs.declared.logs.Row.{Row}
@@ -9,10 +10,12 @@ use Rattle.tcs_terms.specs.Preparations.{Preparation}
 use Rattle.tcs_terms.proofs.BoolLaws.{left_of, right_of}
 use Rattle.protocol.specs.Invariant.Logs.{entries_of}
 use Rattle.protocol.specs.Invariant.Time.{StandsIn}
-use Rattle.protocol.specs.Log.{row_of, slot_or_zero, last_slot}
-use Rattle.protocol_laws.proofs.Standing.{map-StandsIn, IsMapped, find-none}
+use Rattle.protocol.specs.Log.{row_of, slot_or_zero, last_slot, has_at, undecided, put_entry, accepted}
+use Rattle.protocol_laws.proofs.Standing.{map-StandsIn, IsMapped, find-none, StandsIn-map, filter-StandsIn}
 use Rattle.protocol_laws.proofs.Ascending.{ascending-one, txns-one}
 use Rattle.protocol_laws.proofs.SameTxn.{same_txn-self}
+use Rattle.std.proofs.lemmas.List.{map-append}
+use Rattle.protocol.proofs.Lists.{StandsIn-append}
 
 abbrev slot_of : Row → ℕ
 slot_of r = r.entry.slot
@@ -62,3 +65,48 @@ row-none rows txn h r s e =
     let k : same_txn r.entry.txn txn ≡ false = find-none (λ (r : Row). same_txn r.entry.txn txn) rows r h s in
     let m : same_txn r.entry.txn txn ≡ true = ap (λ u. same_txn r.entry.txn u) (sym e) ∙ same_txn-self r.entry.txn in
     cc (k, m)
+
+-- where no row of a transaction is found, no entry is of it
+pub entry-none : (rows : List Row) (txn : TxId) → row_of rows txn ≡ None → (x : Preparation) → StandsIn x (entries_of rows) → x.txn ≡ txn → ⊥
+entry-none rows txn h x s e =
+    let m : IsMapped (λ (r : Row). r.entry) rows x = map-StandsIn (λ (r : Row). r.entry) rows x s in
+    row-none rows txn h m.from m.there (ap (λ (p : Preparation). p.txn) (sym m.is) ∙ e)
+
+-- an entry of joined rows is one of the first or of the second
+pub joined-entries : (xs ys : List Row) (x : Preparation) → StandsIn x (entries_of (xs ++ ys)) → StandsIn x (entries_of xs) ⊎ StandsIn x (entries_of ys)
+joined-entries xs ys x s = StandsIn-append (entries_of xs) (entries_of ys) x (subst (λ es. StandsIn x es) (map-append (λ (r : Row). r.entry) xs ys) s)
+
+-- an entry of the rows that pass a test is that of a row that passes it
+pub filtered-row : (p : Row → Bool) (rows : List Row) (x : Preparation) → StandsIn x (entries_of (filter p rows)) → (r : Row) × StandsIn r rows × (p r ≡ true) × (x ≡ r.entry)
+filtered-row p rows x s =
+    let m : IsMapped (λ (r : Row). r.entry) (filter p rows) x = map-StandsIn (λ (r : Row). r.entry) (filter p rows) x s in
+    let f : StandsIn m.from rows × (p m.from ≡ true) = filter-StandsIn p rows m.from m.there in (m.from, f.0, f.1, m.is)
+
+pub filtered-StandsIn : (p : Row → Bool) (rows : List Row) (x : Preparation) → StandsIn x (entries_of (filter p rows)) → StandsIn x (entries_of rows)
+filtered-StandsIn p rows x s =
+    let r : (r : Row) × StandsIn r rows × (p r ≡ true) × (x ≡ r.entry) = filtered-row p rows x s in
+    subst (λ y. StandsIn y (entries_of rows)) (sym r.3) (StandsIn-map (λ (q : Row). q.entry) rows r.0 r.1)
+
+-- a row among those that a follower accepted an entry into
+pub accepted_came : (rows : List Row) (entry : Preparation) (r : Row) → StandsIn r (accepted rows entry) → StandsIn r rows ⊎ (r ≡ undecided entry)
+accepted_came rows entry r s = go (has_at rows entry.slot entry.txn) s
+  where
+    put : StandsIn r (put_entry rows entry) → StandsIn r rows ⊎ (r ≡ undecided entry)
+    put s = elim (StandsIn-append (filter (λ q. nat_lt q.entry.slot entry.slot) rows) (undecided entry ∷ filter (λ q. nat_lt entry.slot q.entry.slot) rows) r s) [
+      | inl k ↦ inl (filter-StandsIn (λ (q : Row). nat_lt q.entry.slot entry.slot) rows r k).0
+      | inr (inl e) ↦ inr e
+      | inr (inr k) ↦ inl (filter-StandsIn (λ (q : Row). nat_lt entry.slot q.entry.slot) rows r k).0
+    ]
+
+    go : (b : Bool) → StandsIn r (cond b rows (put_entry rows entry)) → StandsIn r rows ⊎ (r ≡ undecided entry)
+    go true k = inl k
+    go false k = put k
+
+-- and so is its entry
+pub accepted-StandsIn : (rows : List Row) (entry x : Preparation) → StandsIn x (entries_of (accepted rows entry)) → StandsIn x (entries_of rows) ⊎ (x ≡ entry)
+accepted-StandsIn rows entry x s =
+    let m : IsMapped (λ (r : Row). r.entry) (accepted rows entry) x = map-StandsIn (λ (r : Row). r.entry) (accepted rows entry) x s in
+    elim (accepted_came rows entry m.from m.there) [
+      | inl k ↦ inl (subst (λ y. StandsIn y (entries_of rows)) (sym m.is) (StandsIn-map (λ (r : Row). r.entry) rows m.from k))
+      | inr e ↦ inr (m.is ∙ ap (λ (r : Row). r.entry) e)
+    ]
