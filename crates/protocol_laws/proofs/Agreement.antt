@@ -12,7 +12,7 @@ use Rattle.protocol.specs.Cases.{cause_of, decision_by, decision_of}
 use Rattle.protocol.specs.Invariant.{InvariantHolds}
 use Rattle.protocol.specs.Invariant.Decisions.{IsAcceptedIn, IsDecidedBy}
 use Rattle.protocol.specs.Invariant.Time.{Moment, StandsIn, WasNoted}
-use Rattle.protocol.specs.Invariant.Transactions.{IsBegun, HasBegun}
+use Rattle.protocol.specs.Invariant.Transactions.{IsBegun}
 use Rattle.protocol.specs.Records.{Part}
 use Rattle.protocol_laws.proofs.OneEntry.{one_entry}
 

@@ -1,5 +1,5 @@
 -- Agreement, as a test of a history: all decisions of a transaction are equal, each after its beginning.
-use Rattle.std.proofs.Common.{◌≡◌, Bool, true, false, not, List, ◌∷◌, ◌++◌, ◌||◌, ◌==◌, inl, sym, ap, subst, refl, eq-eqb, ℕ, is_some}
+use Rattle.std.proofs.Common.{◌≡◌, Bool, true, false, not, List, ◌∷◌, ◌++◌, ◌||◌, ◌==◌, ap, subst, refl, eq-eqb, ℕ, is_some}
 use Rattle.std.specs.List.{list_all}
 use Rattle.tcs_terms.specs.declared.ids.TxId.{TxId}
 use Rattle.tcs_terms.specs.declared.inputs.Note.{Note}
@@ -13,8 +13,7 @@ use Rattle.tcs_terms.proofs.BoolLaws.{both}
 use Rattle.protocol.specs.CorrectHistory.{same_cause, same_decision, agrees_with, agrees_after, agrees}
 use Rattle.protocol.specs.History.{has_begun}
 use Rattle.protocol.specs.Invariant.Time.{StandsIn}
-use Rattle.protocol_laws.proofs.BegunFirst.{BegunFirst}
-use Rattle.protocol_laws.proofs.Standing.{StandsIn-left, StandsIn-right, all-from}
+use Rattle.protocol_laws.proofs.Standing.{all-from}
 use Rattle.protocol_laws.proofs.WithPast.{all-with_past}
 use Rattle.protocol_laws.proofs.SameTxn.{same_txn-eq, same_txn-self}
 use Rattle.protocol_laws.proofs.HistoryKept.{DecisionStands, HistoryHolds}

@@ -1,5 +1,5 @@
 -- A part of a complete case has an entry that every member of its view held, and cases hold as they go on.
-use Rattle.std.proofs.Common.{◌≡◌, ℕ, Bool, true, false, not, List, Option, Some, None, ◌==◌, sym, ◌∙◌, ap, subst, refl, eqb-true}
+use Rattle.std.proofs.Common.{◌≡◌, ℕ, Bool, true, false, not, List, Option, Some, None, ◌==◌, sym, ap, subst, refl, eqb-true}
 use Rattle.tcs_terms.specs.declared.ids.TxId.{TxId}
 use Rattle.tcs_terms.specs.declared.inputs.Input.{Input}
 use Rattle.tcs_terms.specs.declared.inputs.Input.TheVariants as inputs
@@ -9,7 +9,7 @@ use Rattle.tcs_terms.specs.Preparations.{Preparation}
 use Rattle.tcs_terms.specs.Setups.{Deployment}
 use Rattle.tcs_laws.specs.Certification.{Tests}
 use Rattle.protocol.specs.Cases.{all_acknowledge, is_complete_by}
-use Rattle.protocol.specs.Coordination.{case_of, with_part, voted, voted_at, acknowledged}
+use Rattle.protocol.specs.Coordination.{with_part, voted, voted_at, acknowledged}
 use Rattle.protocol.specs.Outcomes.{Out}
 use Rattle.protocol.specs.Records.{Part, Case, NodeRecord}
 use Rattle.protocol.specs.Views.{view_of, followers}
@@ -20,11 +20,8 @@ use Rattle.protocol.specs.Invariant.Time.{Moment, StandsIn, IsStored}
 use Rattle.protocol.proofs.Lists.{all-StandsIn, among-StandsIn}
 use Rattle.protocol_laws.specs.Effect.{OpenPart}
 use Rattle.protocol_laws.proofs.Standing.{StandsIn-filter}
-use Rattle.protocol_laws.proofs.Stored.{one_config}
 use Rattle.protocol_laws.proofs.ViewsStored.{view_is, IsView}
-use Rattle.protocol_laws.proofs.CaseParts.{part_is, IsPartOf}
 use Rattle.protocol_laws.proofs.TransactionsActing.{IsActing}
-use Rattle.protocol_laws.proofs.ByTransaction.{lookup-StandsIn}
 use Rattle.protocol_laws.proofs.EntriesCases.{voted_case-holds, acknowledged_case-holds, CasesHold}
 use Rattle.protocol_laws.proofs.EntriesAnswered.{listed_at-Listed}
 

@@ -1,5 +1,5 @@
 -- What is answered, sent to be accepted and acknowledged is listed, or held, at the epoch that is stated.
-use Rattle.std.proofs.Common.{◌≡◌, ℕ, ◌≤◌, true, ◌==◌, List, ◌++◌, Option, Some, None, ◌⊎◌, inl, inr, sym, ◌∙◌, ap, subst, subst₂, refl, eqb-true}
+use Rattle.std.proofs.Common.{◌≡◌, ℕ, ◌≤◌, true, ◌==◌, List, Option, Some, None, ◌⊎◌, inl, inr, sym, ◌∙◌, ap, subst, subst₂, refl, eqb-true}
 use Rattle.tcs_terms.specs.declared.ids.TxId.{TxId}
 use Rattle.tcs_terms.specs.declared.inputs.Event.{Event}
 use Rattle.tcs_terms.specs.declared.inputs.Input.{Input}
@@ -9,7 +9,7 @@ use Rattle.tcs_terms.specs.Preparations.{Preparation}
 use Rattle.tcs_terms.specs.Setups.{Deployment}
 use Rattle.tcs_laws.specs.Certification.{Tests}
 use Rattle.protocol.specs.Coordination.{first_entry}
-use Rattle.protocol.specs.Invariant.Configurations.{ConfigurationsHold, role_configs, probed_configs, gathered_configs}
+use Rattle.protocol.specs.Invariant.Configurations.{ConfigurationsHold, role_configs}
 use Rattle.protocol.specs.Invariant.Entries.{ListedAt, HeldAt, PartHolds, CaseHolds}
 use Rattle.protocol.specs.Invariant.Logs.{entries_of, Reached, Listed}
 use Rattle.protocol.specs.Invariant.Promises.{FitsRole, PromisesHold}
@@ -23,7 +23,6 @@ use Rattle.protocol.proofs.Lists.{find-StandsIn}
 use Rattle.protocol_laws.specs.Turn.{Turn, Onward, GrewFrom}
 use Rattle.protocol_laws.proofs.ConfigurationsInputs.{delivered}
 use Rattle.protocol_laws.proofs.Lasting.{is_in-now, held-on, has_initial-on, listed-on}
-use Rattle.protocol_laws.proofs.Standing.{StandsIn-left, StandsIn-right}
 use Rattle.protocol_laws.proofs.Stored.{one_config, stored-some, member_shard, follower_member}
 use Rattle.protocol_laws.proofs.Came.{Acting, effect_name}
 use Rattle.protocol_laws.proofs.TransferHeld.{leads_it}

@@ -1,5 +1,5 @@
 -- One event keeps the cases of each node.
-use Rattle.std.proofs.Common.{◌≡◌, ℕ, ◌<◌, ◌==◌, List, Some, inl, inr, sym, ◌∙◌, ap, subst, refl, arith, eqb-true}
+use Rattle.std.proofs.Common.{◌≡◌, ℕ, ◌<◌, List, inl, inr, sym, ap, subst, refl, arith}
 use Rattle.tcs_terms.specs.declared.ids.TxId.{TxId}
 use Rattle.tcs_terms.specs.declared.inputs.Event.{Event}
 use Rattle.tcs_terms.specs.declared.inputs.Input.{Input}
@@ -11,25 +11,23 @@ use Rattle.tcs_terms.specs.Preparations.{Preparation}
 use Rattle.tcs_terms.specs.Setups.{Deployment}
 use Rattle.tcs_laws.specs.Certification.{Tests}
 use Rattle.protocol.specs.ClientRules.{next_txn}
-use Rattle.protocol.specs.Coordination.{first_entry, voted, acknowledged}
+use Rattle.protocol.specs.Coordination.{first_entry}
 use Rattle.protocol.specs.Invariant.Configurations.{ConfigurationsHold}
-use Rattle.protocol.specs.Invariant.Entries.{HeldAt, PartHolds, CaseHolds}
+use Rattle.protocol.specs.Invariant.Entries.{HeldAt, CaseHolds}
 use Rattle.protocol.specs.Invariant.Logs.{Listed}
 use Rattle.protocol.specs.Invariant.Time.{Moment, goes_to, StandsIn, IsNode}
 use Rattle.protocol.specs.Invariant.Transactions.{CaseFits}
 use Rattle.protocol.specs.Outcomes.{Out}
-use Rattle.protocol.specs.Records.{Part, Case, Coordinator, NodeRecord}
-use Rattle.protocol.specs.Views.{view_of}
+use Rattle.protocol.specs.Records.{Case, Coordinator, NodeRecord}
 use Rattle.protocol.specs.World.{Happening}
-use Rattle.protocol.proofs.Lists.{find-StandsIn}
-use Rattle.protocol_laws.specs.Effect.{Effect, OpenPart, Sees}
+use Rattle.protocol_laws.specs.Effect.{Effect, Sees}
 use Rattle.protocol_laws.specs.Effect.Effect.{Rests, Certifies, TakesOver, Votes, Acknowledges, Changes, Learns}
 use Rattle.protocol_laws.specs.Effect.Sees.{Replaces, Keeps}
 use Rattle.protocol_laws.specs.Turn.{Turn, Onward}
 use Rattle.protocol_laws.proofs.ConfigurationsInputs.{delivered}
 use Rattle.protocol_laws.proofs.EntriesAnswered.{asked_listed}
 use Rattle.protocol_laws.proofs.EntriesCases.{CasesHold, cases-on, new_case-holds, begins-holds, goes_on-holds, change_view-holds, voted_case-holds, acknowledged_case-holds}
-use Rattle.protocol_laws.proofs.ByTransaction.{keys, lookup-none-StandsIn, lookup-StandsIn}
+use Rattle.protocol_laws.proofs.ByTransaction.{keys, lookup-none-StandsIn}
 use Rattle.protocol_laws.proofs.Standing.{map-StandsIn, IsMapped}
 use Rattle.protocol_laws.proofs.Came.{node_back, Acting}
 use Rattle.protocol_laws.proofs.TransferSending.{VotesNow}

@@ -1,5 +1,5 @@
 -- What stands behind each decision of a history, and that an event keeps it.
-use Rattle.std.proofs.Common.{◌≡◌, ℕ, Bool, true, false, cond, List, [], ◌∷◌, ◌++◌, Some, None, inl, inr, sym, ◌∙◌, ap, subst, refl, append-nil}
+use Rattle.std.proofs.Common.{◌≡◌, ℕ, Bool, true, false, cond, List, [], ◌∷◌, ◌++◌, Some, None, inl, inr, sym, ◌∙◌, ap, subst, append-nil}
 use Rattle.tcs_terms.specs.declared.ids.TxId.{TxId}
 use Rattle.tcs_terms.specs.declared.inputs.Event.{Event}
 use Rattle.tcs_terms.specs.declared.inputs.Note.{Note}
@@ -23,7 +23,7 @@ use Rattle.protocol_laws.proofs.CausesNow.{NamesClash, clash_now, lost_now}
 use Rattle.protocol_laws.proofs.DecidesNow.{DecidesNow, now-noted, earlier-noted, earlier-payload}
 use Rattle.protocol_laws.proofs.Fronts.{Splits, InFirst, InSecond, splits}
 use Rattle.protocol_laws.proofs.LegalNow.{legal_now}
-use Rattle.protocol_laws.proofs.OneNote.{AtMostOne, GoesOnByOne, change-one, IsLast, is_last}
+use Rattle.protocol_laws.proofs.OneNote.{GoesOnByOne, change-one, IsLast, is_last}
 use Rattle.protocol_laws.proofs.PastKept.{PastHolds}
 
 -- whatever a client began is a payload

@@ -11,19 +11,16 @@ use Rattle.tcs_laws.specs.Certification.{Tests}
 use Rattle.tcs_laws.specs.Laws.{IsLawful}
 use Rattle.protocol.proofs.Moments.{time_after-now}
 use Rattle.protocol.specs.CorrectHistory.{agrees, is_legal, keeps_time, names_clashes, names_losses, IsCorrect}
-use Rattle.protocol.specs.Invariant.{InvariantHolds}
 use Rattle.protocol.specs.Invariant.Time.{StandsIn, time_after}
 use Rattle.protocol.specs.FoundNothing.{found_nothing}
 use Rattle.protocol.specs.Run.{run}
 use Rattle.protocol_laws.specs.Runs.{AreEvents, HandInPayloads}
-use Rattle.protocol_laws.proofs.Agreement.{agreement}
 use Rattle.protocol_laws.proofs.AgreesOf.{agrees-of}
 use Rattle.protocol_laws.proofs.BegunFirst.{begun_first}
 use Rattle.protocol_laws.proofs.CorrectNotes.{history-clashes, history-loses}
 use Rattle.protocol_laws.proofs.CorrectOrder.{history-legal}
 use Rattle.protocol_laws.proofs.HistoryAt.{formed_at, remembers_at}
 use Rattle.protocol_laws.proofs.KeepsTime.{keeps_time-of}
-use Rattle.protocol_laws.proofs.RunInduction.{invariant_at}
 use Rattle.protocol_laws.proofs.RunMoments.{run-found_nothing}
 
 -- what holds of the history at the last moment holds of the run's

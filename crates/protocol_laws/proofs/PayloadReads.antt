@@ -1,7 +1,6 @@
 -- What a well-formed payload read of an object that it writes, and what a certifier that checks reads says of that.
-use Rattle.std.proofs.Common.{◌≡◌, ℕ, ◌<◌, ◌≤◌, Bool, true, false, List, [], ◌∷◌, ◌||◌, find, nat_lt, Some, inl, inr, ap, subst, refl, arith, IfSome}
+use Rattle.std.proofs.Common.{◌≡◌, ℕ, ◌<◌, ◌≤◌, true, List, find, nat_lt, Some, ap, subst, arith, IfSome}
 use Rattle.std.proofs.lemmas.Bool.{ltb-true}
-use Rattle.std.specs.List.{list_any}
 use Rattle.tcs_terms.specs.declared.payloads.ReadPart.{ReadPart}
 use Rattle.tcs_terms.specs.declared.payloads.WritePart.{WritePart}
 use Rattle.tcs_terms.specs.Payloads.{Accesses, IsPayload, same_name, reads_name}

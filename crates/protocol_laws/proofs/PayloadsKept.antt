@@ -1,21 +1,19 @@
 -- Whatever a client began is a payload, if it asked to certify payloads.
-use Rattle.std.proofs.Common.{◌≡◌, ℕ, List, ◌++◌, inl, inr, sym, ap, subst, ◌∙◌, append-nil, length}
+use Rattle.std.proofs.Common.{◌≡◌, ℕ, ◌++◌, inl, inr, sym, ap, subst, ◌∙◌, append-nil, length}
 use Rattle.tcs_terms.specs.declared.ids.TxId.{TxId}
 use Rattle.tcs_terms.specs.declared.inputs.Event.{Event}
 use Rattle.tcs_terms.specs.declared.inputs.Event.TheVariants.{Call}
 use Rattle.tcs_terms.specs.declared.inputs.Input.{Input}
 use Rattle.tcs_terms.specs.declared.inputs.Input.TheVariants as inputs
 use Rattle.tcs_terms.specs.declared.inputs.Note.TheVariants.{Begin}
-use Rattle.tcs_terms.specs.declared.messages.Message.{Message}
 use Rattle.tcs_terms.specs.Payloads.{Accesses, IsPayload}
-use Rattle.tcs_terms.specs.Places.{Membership}
 use Rattle.tcs_laws.specs.Certification.{Tests}
 use Rattle.protocol.specs.Invariant.Time.{StandsIn}
 use Rattle.protocol.specs.Outcomes.{Out}
 use Rattle.protocol.specs.Records.{NodeRecord}
 use Rattle.protocol.specs.World.{World, Happening}
 use Rattle.protocol.proofs.Lists.{StandsIn-append}
-use Rattle.protocol_laws.specs.Change.{Change, Passes, Stops, Acts, AtService, Comes, ByCall, ByMessage, Serves, HoldsBack, Tells, Stores}
+use Rattle.protocol_laws.specs.Change.{Change, Passes, Stops, Acts, AtService, Comes, ByCall, ByMessage}
 use Rattle.protocol_laws.specs.Effect.{Effect, Rests, Certifies, TakesOver, Reads, Votes, Acknowledges}
 use Rattle.protocol_laws.specs.Runs.{EventStands}
 use Rattle.protocol_laws.proofs.HistoryKept.{ArePayloads}

@@ -1,19 +1,16 @@
 -- What becomes of rows stays fit for a log: rows appended, put, marked, and gathered from pieces.
-use Rattle.std.proofs.Common.{◌≡◌, ℕ, ◌+◌, ◌<◌, ◌≤◌, Bool, true, false, cond, not, List, [], ◌∷◌, ◌++◌, filter, Option, Some, None, is_some, ◌&&◌, ◌||◌, inl, inr, sym, ◌∙◌, ap, subst, refl, arith, ltb-true, leb-false, le-leb, nat_le, nat_lt}
-use Rattle.std.specs.List.{last_or}
+use Rattle.std.proofs.Common.{◌≡◌, ℕ, ◌+◌, ◌<◌, ◌≤◌, Bool, true, false, cond, not, List, [], ◌∷◌, ◌++◌, filter, None, is_some, ◌&&◌, ◌||◌, inl, inr, sym, ◌∙◌, ap, subst, arith, ltb-true, leb-false, le-leb, nat_le, nat_lt}
 use Rattle.std.proofs.lemmas.List.{map-append}
-use Rattle.tcs_terms.specs.declared.ids.TxId.{TxId}
 use Rattle.tcs_terms.specs.declared.limits.TheConstants.{MAX_SLOT}
 use Rattle.tcs_terms.specs.declared.logs.Row.{Row}
-use Rattle.tcs_terms.specs.Logs.{same_txn, AreRows}
+use Rattle.tcs_terms.specs.Logs.{AreRows}
 use Rattle.tcs_terms.specs.Preparations.{Preparation}
 use Rattle.tcs_terms.proofs.BoolLaws.{both, neither_right}
-use Rattle.protocol.specs.Log.{row_of, row_at, last_slot, slot_or_zero, is_full, undecided, has_at, is_taken, accepted, put_entry}
+use Rattle.protocol.specs.Log.{row_of, row_at, last_slot, is_full, undecided, has_at, is_taken, accepted, put_entry}
 use Rattle.protocol.specs.Invariant.Logs.{entries_of}
 use Rattle.protocol.specs.Invariant.Time.{StandsIn}
 use Rattle.protocol_laws.proofs.PromisesOrder.{slot_fits, InOrder, rows-in_order, in_order-rows, in_order-join, in_order-filter, in_order-apart}
-use Rattle.protocol_laws.proofs.Standing.{IsMapped, map-StandsIn, find-none, is-none}
-use Rattle.protocol_laws.proofs.SameTxn.{same_txn-self}
+use Rattle.protocol_laws.proofs.Standing.{is-none}
 use Rattle.protocol_laws.proofs.LogRows.{filtered-StandsIn, entry-none, entry-upto_last, filtered-row}
 
 one-in_order : (x : Preparation) → slot_fits x ≡ true → InOrder (x ∷ [])

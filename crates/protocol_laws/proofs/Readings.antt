@@ -1,5 +1,5 @@
 -- One event keeps what is so of readings.
-use Rattle.std.proofs.Common.{◌≡◌, ℕ, List, [], ◌∷◌, ◌++◌, ◌⊎◌, inl, inr, sym, ◌∙◌, ap, subst, refl, append-nil}
+use Rattle.std.proofs.Common.{◌≡◌, ℕ, List, [], ◌∷◌, ◌++◌, ◌⊎◌, inl, inr, sym, ◌∙◌, ap, subst, append-nil}
 use Rattle.tcs_terms.specs.declared.inputs.Event.{Event}
 use Rattle.tcs_terms.specs.declared.inputs.Input.{Input}
 use Rattle.tcs_terms.specs.declared.inputs.Note.{Note}
@@ -8,8 +8,6 @@ use Rattle.tcs_terms.specs.declared.messages.Outgoing.{Outgoing}
 use Rattle.tcs_terms.specs.declared.ids.TxId.{TxId}
 use Rattle.tcs_terms.specs.Setups.{Deployment}
 use Rattle.tcs_laws.specs.Certification.{Tests}
-use Rattle.protocol.specs.Cases.{decision_of}
-use Rattle.protocol.specs.ClientRules.{next_txn}
 use Rattle.protocol.specs.Outcomes.{Out}
 use Rattle.protocol.specs.Records.{Case, Coordinator, NodeRecord}
 use Rattle.protocol.specs.Versions.{Reading, read_of, value_or_empty}
@@ -27,7 +25,7 @@ use Rattle.protocol.specs.Invariant.Transactions.{TransactionsHold}
 use Rattle.protocol.specs.Invariant.Transfer.{TransferHolds}
 use Rattle.protocol_laws.specs.Effect.{GoesOn, Effect}
 use Rattle.protocol_laws.specs.Effect.GoesOn.{Waiting, Decides}
-use Rattle.protocol_laws.specs.Effect.Effect.{Certifies, TakesOver, Reads, Votes, Acknowledges}
+use Rattle.protocol_laws.specs.Effect.Effect.{Reads, Votes, Acknowledges}
 use Rattle.protocol_laws.specs.Turn.{Turn}
 use Rattle.protocol_laws.proofs.Fronts.{Splits, splits}
 use Rattle.protocol_laws.proofs.Fronts.Splits.{InFirst, InSecond}

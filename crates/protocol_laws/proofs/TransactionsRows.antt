@@ -1,5 +1,5 @@
 -- Where each row of a node comes from, after it acted.
-use Rattle.std.proofs.Common.{◌≡◌, ℕ, ◌≤◌, Bool, true, false, cond, List, [], ◌∷◌, ◌++◌, filter, Option, Some, None, ◌==◌, nat_lt, ◌⊎◌, inl, inr, sym, ◌∙◌, ap, subst, refl, arith, eqb-true}
+use Rattle.std.proofs.Common.{◌≡◌, ℕ, ◌≤◌, Bool, true, false, cond, List, [], ◌∷◌, ◌++◌, Option, Some, None, ◌==◌, ◌⊎◌, inl, inr, sym, ◌∙◌, ap, subst, refl, arith, eqb-true}
 use Rattle.tcs_terms.specs.declared.ids.TxId.{TxId}
 use Rattle.tcs_terms.specs.declared.inputs.Input.{Input}
 use Rattle.tcs_terms.specs.declared.inputs.Input.TheVariants as inputs
@@ -9,7 +9,7 @@ use Rattle.tcs_terms.specs.Payloads.{Accesses}
 use Rattle.tcs_terms.specs.Places.{Membership}
 use Rattle.tcs_terms.specs.Preparations.{Preparation}
 use Rattle.tcs_laws.specs.Certification.{Tests}
-use Rattle.protocol.specs.Log.{row_of, new_entry, undecided, has_at, put_entry, accepted, set_mark, marked, mark_of}
+use Rattle.protocol.specs.Log.{row_of, new_entry, undecided, has_at, set_mark, marked, mark_of}
 use Rattle.protocol.specs.Outcomes.{Out}
 use Rattle.protocol.specs.Pieces.{is_kept, with_piece, rows_of, with_one_more, begun, is_gathering_of, gathering_for}
 use Rattle.protocol.specs.Records.{Role, Gathering, Piece, NodeRecord}
@@ -21,7 +21,7 @@ use Rattle.protocol.proofs.Lists.{StandsIn-append}
 use Rattle.protocol_laws.proofs.TransferPieces.{with_piece-StandsIn, same_config-is}
 use Rattle.protocol_laws.specs.Effect.{Effect}
 use Rattle.protocol_laws.specs.Effect.Effect.{Appends, Accepts, Marks, Leads, Follows, FollowsPieces}
-use Rattle.protocol_laws.proofs.Standing.{IsMapped, map-StandsIn, filter-StandsIn, IsPiece, flat_map-StandsIn}
+use Rattle.protocol_laws.proofs.Standing.{IsMapped, map-StandsIn, IsPiece, flat_map-StandsIn}
 use Rattle.protocol_laws.proofs.LogRows.{accepted_came}
 
 -- A row that a node has after an input: it was there, got a mark, or came with the input or a piece that was kept.

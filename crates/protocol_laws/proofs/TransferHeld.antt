@@ -1,10 +1,9 @@
 -- How a member of a configuration comes to hold an entry there: it enters, it leads and appends, or it accepts a listed one.
-use Rattle.std.proofs.Common.{◌≡◌, ℕ, ◌≤◌, Bool, true, false, cond, nat_lt, List, [], ◌∷◌, ◌++◌, filter, Option, None, ◌⊎◌, inl, inr, sym, ◌∙◌, ap, ap₂, subst, refl, arith}
+use Rattle.std.proofs.Common.{◌≡◌, ℕ, ◌≤◌, true, List, [], ◌∷◌, ◌++◌, Option, None, ◌⊎◌, inl, inr, sym, ◌∙◌, ap, ap₂, subst, refl, arith}
 use Rattle.tcs_terms.specs.declared.ids.TxId.{TxId}
 use Rattle.tcs_terms.specs.declared.inputs.Event.{Event}
 use Rattle.tcs_terms.specs.declared.inputs.Input.{Input}
 use Rattle.tcs_terms.specs.declared.inputs.Input.TheVariants.{Deliver}
-use Rattle.tcs_terms.specs.declared.logs.Row.{Row}
 use Rattle.tcs_terms.specs.declared.messages.Message.TheVariants.{Accept}
 use Rattle.tcs_terms.specs.Payloads.{Accesses}
 use Rattle.tcs_terms.specs.Places.{Membership}
@@ -16,7 +15,7 @@ use Rattle.protocol.specs.Invariant.Entries.{ListedAt}
 use Rattle.protocol.specs.Invariant.Logs.{entries_of, Held, Listed}
 use Rattle.protocol.specs.Invariant.Promises.{PromisesHold, FitsRole, IsOf}
 use Rattle.protocol.specs.Invariant.Time.{Moment, goes_to, StandsIn, IsNode, IsStored, WasSent}
-use Rattle.protocol.specs.Log.{row_of, new_entry, mark_of, has_at, put_entry, accepted, undecided}
+use Rattle.protocol.specs.Log.{row_of, new_entry, mark_of, undecided}
 use Rattle.protocol.specs.Outcomes.{Out}
 use Rattle.protocol.specs.Records.{Role, NodeRecord}
 use Rattle.protocol.specs.Records.Role.{Fenced, Leader, Follower}

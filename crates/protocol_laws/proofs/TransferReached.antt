@@ -1,5 +1,5 @@
 -- Who reached a configuration after an event, and when its initial entries came to be defined.
-use Rattle.std.proofs.Common.{◌≡◌, ℕ, zero, suc, ◌+◌, ◌-◌, ◌<◌, ◌≤◌, true, ◌==◌, nat_le, List, [], ◌∷◌, length, slice_index, ◌⊎◌, inl, inr, sym, ◌∙◌, ap, subst, refl, arith, leb-true, eq-or-lt_of_le}
+use Rattle.std.proofs.Common.{◌≡◌, ℕ, ◌-◌, ◌<◌, ◌≤◌, true, ◌==◌, nat_le, length, slice_index, ◌⊎◌, inl, inr, sym, ◌∙◌, ap, subst, arith, leb-true}
 use Rattle.tcs_terms.specs.declared.inputs.Event.{Event}
 use Rattle.tcs_terms.specs.Places.{Membership}
 use Rattle.tcs_terms.specs.Setups.{Deployment, has_node, is_node_of}
@@ -14,7 +14,7 @@ use Rattle.protocol.specs.World.{Happening}
 use Rattle.protocol.proofs.Lists.{all-StandsIn}
 use Rattle.protocol_laws.specs.Turn.{Turn, Onward, GrewTo}
 use Rattle.protocol_laws.proofs.Lasting.{IsIn, reached-back, is_in-now}
-use Rattle.protocol_laws.proofs.Numbered.{AreNumbered, numbered_there}
+use Rattle.protocol_laws.proofs.Numbered.{numbered_there}
 use Rattle.protocol_laws.proofs.Stored.{one_config, next_above, member_shard}
 use Rattle.protocol_laws.proofs.Came.{node_back, config_back, IsNext, IsOfActing, effect_name}
 use Rattle.protocol_laws.proofs.TransferEnters.{enters, EntersAs, LeadsAs, Following}
