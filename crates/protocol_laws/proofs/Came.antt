@@ -102,7 +102,7 @@ message_by tests setup t event h (AtService number asker asked sent out e found 
   | inr p ↦ inr (inr (service_says _ t.now.configs asker asked out serves (to dest m) (sent_from from 0 dest m out.sends p).1))
 ]
 
--- a message after an event was sent before, or by who acted
+-- a message after an event was sent before, by the node that acted, or by the service
 pub message_back : (tests : Tests) (setup : Deployment) (t : Moment) (event : Event) (h : Happening) → Turn tests setup t event h → (from dest : ℕ) (m : Message) → WasSent (goes_to t h.after) from dest m
     → WasSent t from dest m ⊎ IsSentBy tests setup t event h from dest m ⊎ ServiceSays h.after.configs m
 message_back tests setup t event h turn from dest m s = message_by tests setup t event h turn.change from dest m s

@@ -85,6 +85,7 @@ slice_get-StandsIn [] i x h = absurd (cc h)
 slice_get-StandsIn (y ∷ ys) zero x h = inl (cc h)
 slice_get-StandsIn (y ∷ ys) (suc i) x h = inr (slice_get-StandsIn ys i x h)
 
+-- what stands in a list of numbers is found among them
 pub StandsIn-among : (xs : List ℕ) (n : ℕ) → StandsIn n xs → is_among xs n ≡ true
 StandsIn-among [] n s = absurd s
 StandsIn-among (x ∷ xs) n (inl e) = ap (λ v. v || is_among xs n) (eq-eqb x n (sym e))
@@ -113,6 +114,7 @@ flat_map-StandsIn f (x ∷ xs) y s = elim (StandsIn-append (f x) (flat_map f xs)
   | inr r ↦ (let i : IsPiece f xs y = flat_map-StandsIn f xs y r in record { source = i.source; among = inr i.among; within = i.within })
 ]
 
+-- what stands in the first elements of a list, or in the others, stands in it
 pub take-StandsIn : {X : Type 0} (k : ℕ) (xs : List X) (x : X) → StandsIn x (take k xs) → StandsIn x xs
 take-StandsIn zero xs x s = absurd s
 take-StandsIn (suc k) [] x s = absurd s
