@@ -11,6 +11,7 @@ use Rattle.protocol.specs.Invariant.Configurations.{role_configs}
 use Rattle.protocol.specs.Invariant.Promises.{FitsRole, IsMemberAt}
 use Rattle.protocol.specs.Invariant.Time.{Moment, StandsIn, IsStored}
 use Rattle.protocol.proofs.Lists.{find-StandsIn, all-StandsIn, among-StandsIn}
+use Rattle.tcs_terms.proofs.BoolLaws.{left_of, right_of}
 
 -- the moment at which a run begins
 unfoldable pub start : Deployment → Moment
@@ -21,14 +22,6 @@ pub record IsFirstConfig (setup : Deployment) (c : Membership) : Type 0 where
   pub epoch : c.epoch ≡ 1
   pub nodes : IsTrue (list_all (is_node_of setup.nodes c.shard) c.members)
   pub leader : IsTrue (is_among c.members c.leader)
-
-pub and-left : (a b : Bool) → (a && b) ≡ true → a ≡ true
-and-left true b h = refl
-and-left false b h = absurd (cc h)
-
-pub and-right : (a b : Bool) → (a && b) ≡ true → b ≡ true
-and-right true b h = h
-and-right false b h = absurd (cc h)
 
 -- P of each element, at one that stands in the list
 pub All-StandsIn : {X : Type 0} (P : X → Type 0) (xs : List X) (x : X) → ((k : ℕ) (d : X) → k < length xs → P (slice_index_or xs k d)) → StandsIn x xs → P x
@@ -41,8 +34,8 @@ first_configs setup d c s =
     let f : is_first setup.nodes c ≡ true = all-StandsIn (is_first setup.nodes) setup.configs c d.first s in
     let m : IsMembership c = All-StandsIn IsMembership setup.configs c d.configs s in
     record {
-      epoch = eqb-true c.epoch 1 (and-left (c.epoch == 1) (c.by == 0) (and-left ((c.epoch == 1) && (c.by == 0)) (list_all (is_node_of setup.nodes c.shard) c.members) f));
-      nodes = and-right ((c.epoch == 1) && (c.by == 0)) (list_all (is_node_of setup.nodes c.shard) c.members) f;
+      epoch = eqb-true c.epoch 1 (left_of (c.epoch == 1) (c.by == 0) (left_of ((c.epoch == 1) && (c.by == 0)) (list_all (is_node_of setup.nodes c.shard) c.members) f));
+      nodes = right_of ((c.epoch == 1) && (c.by == 0)) (list_all (is_node_of setup.nodes c.shard) c.members) f;
       leader = m.leads;
     }
 

@@ -28,7 +28,8 @@ use Rattle.tcs_terms.specs.declared.inputs.Note.TheVariants.{ReadValue}
 use Rattle.protocol.proofs.Lists.{all-StandsIn, among-StandsIn, StandsIn-append}
 use Rattle.protocol.proofs.FirstNodes.{IsFirst, first_nodes-IsFirst, first_nodes-name, first_nodes-names, first_nodes-shards, first_nodes-at}
 use Rattle.protocol.proofs.FirstConfigs.{view_of-first, epochs_fit}
-use Rattle.protocol.proofs.FirstRoles.{start, IsStarted, IsFirstConfig, first_configs, first_node-IsStarted, and-left, and-right}
+use Rattle.protocol.proofs.FirstRoles.{start, IsStarted, IsFirstConfig, first_configs, first_node-IsStarted}
+use Rattle.tcs_terms.proofs.BoolLaws.{left_of, right_of}
 
 -- a node as it begins has nothing but its role and its views
 pub record IsFresh (setup : Deployment) (node : NodeRecord) : Type 0 where
@@ -99,10 +100,10 @@ leads_at_start setup name shard c h e =
 node_there : (setup : Deployment) (name shard : ℕ) → is_node_of setup.nodes shard name ≡ true → IsNode (start setup) (first_node setup.configs name shard)
 unfolding start first_world
 node_there setup name shard h =
-    let has : has_node setup.nodes name ≡ true = and-left (has_node setup.nodes name) (slice_index setup.nodes (name - 1) == shard) h in
-    let low : 1 ≤ name = leb-true 1 name (and-left (nat_le 1 name) (nat_le name (length setup.nodes)) has) in
-    let high : name ≤ length setup.nodes = leb-true name (length setup.nodes) (and-right (nat_le 1 name) (nat_le name (length setup.nodes)) has) in
-    let of : slice_index setup.nodes (name - 1) ≡ shard = eqb-true (slice_index setup.nodes (name - 1)) shard (and-right (has_node setup.nodes name) (slice_index setup.nodes (name - 1) == shard) h) in
+    let has : has_node setup.nodes name ≡ true = left_of (has_node setup.nodes name) (slice_index setup.nodes (name - 1) == shard) h in
+    let low : 1 ≤ name = leb-true 1 name (left_of (nat_le 1 name) (nat_le name (length setup.nodes)) has) in
+    let high : name ≤ length setup.nodes = leb-true name (length setup.nodes) (right_of (nat_le 1 name) (nat_le name (length setup.nodes)) has) in
+    let of : slice_index setup.nodes (name - 1) ≡ shard = eqb-true (slice_index setup.nodes (name - 1)) shard (right_of (has_node setup.nodes name) (slice_index setup.nodes (name - 1) == shard) h) in
     let there : StandsIn (first_node setup.configs (1 + (name - 1)) (slice_index setup.nodes (name - 1))) (first_nodes setup.configs 1 setup.nodes) = first_nodes-at setup.configs 1 setup.nodes (name - 1) (omega (arith, low, high)) in
     let e : 1 + (name - 1) ≡ name = omega (arith, low) in
     subst (λ s. StandsIn (first_node setup.configs name s) (first_nodes setup.configs 1 setup.nodes)) of
@@ -163,12 +164,15 @@ reached_is_state setup node epoch n r =
     omega (arith, e)
 
 promises_start : (setup : Deployment) → IsDeployment setup → PromisesHold (start setup)
+unfolding start
 promises_start setup d = record {
   roles = λ node n. (node-IsFresh setup d node n).started.fits;
   members = λ node n h. (node-IsFresh setup d node n).started.member h;
   reached = λ node epoch n r. reached_is_state setup node epoch n r;
   held = λ node x n h. absurd (nothing_held setup d node.state node.name x h);
   rows = λ node n. subst (λ rows. AreRows rows) (sym (node-IsFresh setup d node n).rows) (record { slots_ascend = refl; slots = refl; txns_differ = refl });
+  rows_before = λ w node s. absurd s;
+  gathered = λ node g n e. absurd (cc (e, (node-IsFresh setup d node n).gathering));
 }
 
 answers_start : (setup : Deployment) → AnswersHold (start setup)
@@ -191,6 +195,7 @@ transfer_start setup d = record {
   whole = λ from to c rows s. absurd s.sent;
   pieces = λ from to number pieces c rows s. absurd s.sent;
   kept = λ node g piece n e s. absurd (cc (e, (node-IsFresh setup d node n).gathering));
+  in_order = λ node g n e. absurd (cc (e, (node-IsFresh setup d node n).gathering));
   at_least = λ c name entries x i m r s. absurd (subst (λ xs. StandsIn x xs) (initial_is_none setup c entries i) s);
   at_most = λ c name x s m h. absurd (nothing_held setup d c.epoch name x h);
   led = λ c s r. has_initial setup d c s;

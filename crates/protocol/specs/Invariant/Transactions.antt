@@ -36,7 +36,8 @@ HasBegun t txn = (payload : Accesses) × IsBegun t txn payload
 abbrev pub WasTaken : Moment → TxId → Type 0
 WasTaken t txn = WasNoted t (notes.Take txn)
 
--- a leader of the shard held no row of a transaction, and appended one without payload
+-- a leader of the shard held no row of a transaction, and appended one without payload; it leads as before, so the row
+-- did not come to it as another leader's state
 pub record FoundNothingBy (t : Moment) (txn : TxId) (shard : ℕ) : Type 0 where
   pub later : List World
   pub after : World
@@ -51,6 +52,7 @@ pub record FoundNothingBy (t : Moment) (txn : TxId) (shard : ℕ) : Type 0 where
   pub grown : NodeRecord
   pub grown_there : StandsIn grown after.nodes
   pub grown_name : grown.name ≡ node.name
+  pub still : grown.role ≡ node.role
   pub entry : Preparation
   pub appended : grown.rows ≡ node.rows ++ undecided entry ∷ []
   pub of_txn : entry.txn ≡ txn

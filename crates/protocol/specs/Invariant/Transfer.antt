@@ -1,7 +1,8 @@
 -- State transfer: a new leader has whatever was or will be accepted before, and its followers have what it had.
-use Rattle.std.specs.Prelude.{◌≡◌, ℕ, ◌<◌, ◌≤◌, List, Some}
+use Rattle.std.specs.Prelude.{◌≡◌, ℕ, ◌<◌, ◌≤◌, List, map, Some, IsTrue}
 use Rattle.tcs_terms.specs.declared.logs.Row.{Row}
 use Rattle.tcs_terms.specs.declared.messages.Message.TheVariants.{NewState, StatePiece}
+use Rattle.tcs_terms.specs.Order.{ascends}
 use Rattle.tcs_terms.specs.Places.{Membership}
 use Rattle.tcs_terms.specs.Preparations.{Preparation}
 use Rattle.protocol.specs.Pieces.{piece_count, piece_of}
@@ -30,8 +31,9 @@ IsKeptOf t node g piece =
     (from : ℕ) × WasSent t from node.name (StatePiece g.config piece.number g.pieces piece.rows)
 
 -- Where a configuration has its initial entries, each earlier one is handed on to it. What is sent as its state is those
--- entries. A member that reached it holds at least those, and at most its list. Its initial entries are defined exactly
--- where its leader reached it, and wherever a node reached it or its state was sent.
+-- entries. Kept pieces ascend by number, so that all of them together are what was sent. A member that reached it holds
+-- at least those, and at most its list. Its initial entries are defined exactly where its leader reached it, and wherever
+-- a node reached it or its state was sent.
 pub record TransferHolds (t : Moment) : Type 0 where
   pub handed_on : (c earlier : Membership) (entries : List Preparation) → Initial t c entries → IsStored t earlier → earlier.shard ≡ c.shard → earlier.epoch < c.epoch
       → IsHandedOn t earlier entries
@@ -40,6 +42,7 @@ pub record TransferHolds (t : Moment) : Type 0 where
   pub pieces : (from to number pieces : ℕ) (c : Membership) (rows : List Row) → WasSent t from to (StatePiece c number pieces rows)
       → (all : List Row) × IsSentInPieces t c all
   pub kept : (node : NodeRecord) (g : Gathering) (piece : Piece) → IsNode t node → node.gathering ≡ Some g → StandsIn piece g.kept → IsKeptOf t node g piece
+  pub in_order : (node : NodeRecord) (g : Gathering) → IsNode t node → node.gathering ≡ Some g → IsTrue (ascends (map (λ p. p.number) g.kept))
   pub at_least : (c : Membership) (name : ℕ) (entries : List Preparation) (entry : Preparation) → Initial t c entries → StandsIn name c.members → Reached t c.epoch name
       → StandsIn entry entries → Held t c.epoch name entry
   pub at_most : (c : Membership) (name : ℕ) (entry : Preparation) → IsStored t c → StandsIn name c.members → Held t c.epoch name entry → Listed t c entry

@@ -1,0 +1,8 @@
+//! What holds of every run of the protocol.
+#![tactic(auto)]
+
+pub mod copies;
+pub mod histories;
+pub mod invariant;
+pub mod limits;
+pub mod steps;
