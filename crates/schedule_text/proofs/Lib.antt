@@ -1,2 +1,3 @@
+pub mod PrintLemmas
 mod BufferLemmas
 pub mod LineLemmas

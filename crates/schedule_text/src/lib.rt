@@ -3,7 +3,9 @@
 
 pub mod limits;
 mod lines;
+mod printing;
 #[cfg(test)]
 mod tests;
 
 pub use lines::{Got, Lines, LinesStop};
+pub use printing::{print_event, print_setup};
