@@ -1,11 +1,26 @@
 //! The text of a schedule: its lines.
 #![tactic(auto)]
 
+mod cursor;
+mod event_lines;
+mod faults;
+mod header;
 pub mod limits;
 mod lines;
+mod node_lists;
+mod places;
 mod printing;
+mod reader;
+mod script;
 #[cfg(test)]
 mod tests;
+mod transactions;
+mod verbs;
+mod word_readers;
 
+pub use faults::LineFault;
 pub use lines::{Got, Lines, LinesStop};
+pub use places::Place;
 pub use printing::{print_event, print_setup};
+pub use reader::{LineItem, LineReader};
+pub use script::{ScriptForm, ScriptItem, ScriptReader};
