@@ -14,7 +14,7 @@ pub stops_keeping : {A E : Type 0} (r : Result A E) (before between after text :
 stops_keeping (Ok x) before between after text e k = tt
 stops_keeping (Err f) before between after text e k = keeps_on before between after text e k
 
-node_lines_end : (first : ℕ) (ss : List ℕ) (s : ℕ) → node_lines first (ss ++ s ∷ []) ≡ node_lines first ss ++ node_line (first + length ss) s ∷ []
+pub node_lines_end : (first : ℕ) (ss : List ℕ) (s : ℕ) → node_lines first (ss ++ s ∷ []) ≡ node_lines first ss ++ node_line (first + length ss) s ∷ []
 node_lines_end first [] s = ap (λ n. node_line n s ∷ []) (omega arith)
 node_lines_end first (x ∷ ss) s =
     ap (λ (ls : List (List ℕ)). node_line first x ∷ ls) (node_lines_end (first + 1) ss s ∙ ap (λ n. node_lines (first + 1) ss ++ node_line n s ∷ []) (omega arith))

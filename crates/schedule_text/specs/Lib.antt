@@ -6,4 +6,5 @@ pub mod Lines
 pub mod Schedules
 pub mod Scripts
 pub mod Text
+pub mod Whole
 pub mod Words

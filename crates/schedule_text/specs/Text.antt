@@ -30,7 +30,7 @@ numbers_text ns = flat_map spaced_number ns
 
 -- a transaction: the node that made it, a dot, its number there
 abbrev pub txn_text : TxId → List ℕ
-txn_text t = decimal t.home ++ codes "." ++ decimal t.seq
+txn_text t = decimal t.home ++ (codes "." ++ decimal t.seq)
 
 -- ---- the lines of the header
 

@@ -5,6 +5,7 @@ mod cursor;
 mod event_lines;
 mod faults;
 mod header;
+mod laws;
 pub mod limits;
 mod lines;
 mod node_lists;
@@ -19,6 +20,9 @@ mod verbs;
 mod word_readers;
 
 pub use faults::LineFault;
+pub use laws::{
+    one_schedule, what_is_printed_is_read, what_is_read_is_printed, what_is_refused_begins_no_schedule,
+};
 pub use lines::{Got, Lines, LinesStop};
 pub use places::Place;
 pub use printing::{print_event, print_setup};
