@@ -1,5 +1,5 @@
 -- The words of a line, taken one after the other.
-use Rattle.std.proofs.Common.{◌≡◌, ℕ, ◌+◌, ◌-◌, ◌<◌, Bool, true, false, cond, List, [], ◌∷◌, length, take, drop, Some, None, Ok, refl, sym, ◌∙◌, ap, arith}
+use Rattle.std.proofs.Common.{◌≡◌, ℕ, ◌+◌, ◌-◌, Bool, true, false, cond, List, [], ◌∷◌, length, take, drop, Some, None, Ok, refl, sym, ◌∙◌, ap, arith}
 use Rattle.std.specs.Prelude.{position, ◌==◌, nat_lt}
 use Rattle.std.specs.List.{position_or_len}
 use Rattle.std.proofs.lemmas.Bool.{ltb-true, ltb-false}
@@ -9,7 +9,6 @@ use Rattle.std.proofs.lemmas.List.{take_all, length-drop}
 use Rattle.std.proofs.lemmas.List.Splits.{slice_split_none, slice_split_first}
 use Rattle.tcs_terms.specs.Objects.{IsName}
 use Rattle.tcs_terms.specs.Order.{name_before}
-use Rattle.tcs_terms.specs.PayloadWords.{name_word}
 use Rattle.tcs_terms.specs.Words.{words_of, after}
 use Rattle.tcs_terms.proofs.WordLaws.{count_of_words}
 use Rattle.tcs_terms.proofs.WordReadings.{name_again}

@@ -1,25 +1,22 @@
 -- The line of an event is read as it, and a line that is read as an event is its line.
-use Rattle.std.proofs.Common.{◌≡◌, ◌⊎◌, inl, inr, ℕ, zero, suc, ◌-◌, ◌^◌, ◌<◌, ◌≤◌, Bool, true, false, cond, List, [], ◌∷◌, length, map, All, Option, Some, None, Ok, refl, sym, ◌∙◌, ap, subst, arith, codes, decimal}
+use Rattle.std.proofs.Common.{◌≡◌, ◌⊎◌, inl, inr, ℕ, ◌-◌, ◌^◌, Bool, true, false, cond, List, [], ◌∷◌, length, Option, Some, None, Ok, refl, ◌∙◌, ap, subst, arith, codes, decimal}
 use Rattle.std.specs.Prelude.{nat_le, nat_lt, ◌==◌, ◌&&◌, ◌||◌}
 use Rattle.std.specs.List.{list_all}
 use Rattle.std.specs.Cmp.Lexicographic.{bytes_decides}
 use Rattle.std.proofs.lemmas.Bool.{eqb-true}
 use Rattle.std.proofs.lemmas.Bool.Decides.{nat_tests}
-use Rattle.std.proofs.lemmas.List.{nil_from_length}
-use Rattle.tcs_terms.specs.declared.ids.TxId.{TxId}
 use Rattle.tcs_terms.specs.declared.inputs.Input.{Input}
 use Rattle.tcs_terms.specs.declared.inputs.Input.TheVariants as inputs
 use Rattle.tcs_terms.specs.declared.inputs.Event.{Event}
 use Rattle.tcs_terms.specs.declared.inputs.Event.TheVariants as events
-use Rattle.tcs_terms.specs.declared.limits.TheConstants.{MAX_WANTED, MAX_SEQUENCE}
+use Rattle.tcs_terms.specs.declared.limits.TheConstants.{MAX_WANTED}
 use Rattle.tcs_terms.specs.Events.{has_shard, input_fits, event_fits}
-use Rattle.tcs_terms.specs.Objects.{IsName}
 use Rattle.tcs_terms.specs.Order.{ascends}
-use Rattle.tcs_terms.specs.Payloads.{Accesses, same_name, IsPayload}
+use Rattle.tcs_terms.specs.Payloads.{Accesses, same_name}
 use Rattle.tcs_terms.specs.PayloadWords.{payload_at, FitsVersion, name_word}
 use Rattle.tcs_terms.specs.Setups.{Deployment, has_node, is_node_of}
 use Rattle.tcs_terms.proofs.BoolLaws.{both, left_of, right_of}
-use Rattle.tcs_terms.proofs.PayloadReadings.{payload_words, payload_takes, payload_again}
+use Rattle.tcs_terms.proofs.PayloadReadings.{payload_takes}
 use Rattle.tcs_terms.proofs.WordReadings.{name_takes}
 use Rattle.schedule_text.specs.declared.verbs.CallVerb.{CallVerb}
 use Rattle.schedule_text.specs.declared.verbs.CallVerb.TheVariants as calls
@@ -27,14 +24,13 @@ use Rattle.schedule_text.specs.declared.verbs.Verb.{Verb}
 use Rattle.schedule_text.specs.declared.verbs.Verb.TheVariants as verbs
 use Rattle.schedule_text.specs.Text.{txn_text}
 use Rattle.schedule_text.specs.Whole.{IsInput, IsEvent}
-use Rattle.schedule_text.specs.Words.{◌>>=◌, is_for, end_at, between_at, caller_at, name_at, payload_words_at, txn_at, nodes_at}
+use Rattle.schedule_text.specs.Words.{is_for, end_at, between_at, caller_at, name_at, payload_words_at, txn_at, nodes_at}
 use Rattle.schedule_text.specs.Events.{call_verb, verb_or, verb_of, alone_at, certify_at, take_at, move_at, read_at, ask_at, input_at, call_at, delivery_at, stop_at, event_at}
-use Rattle.schedule_text.proofs.CursorLemmas.{name_at_again}
 use Rattle.schedule_text.proofs.LineWords.{call_words, event_words}
 use Rattle.schedule_text.proofs.Steps.{bind_ok, reasoned_ok, ok_is}
-use Rattle.schedule_text.proofs.NumberReadings.{end_takes, between_takes, between_again, caller_takes, caller_again}
-use Rattle.schedule_text.proofs.NodeReadings.{nodes_take, nodes_again, small_node}
-use Rattle.schedule_text.proofs.TxnReadings.{may_be, txn_takes, txn_again}
+use Rattle.schedule_text.proofs.NumberReadings.{end_takes, between_takes, caller_takes}
+use Rattle.schedule_text.proofs.NodeReadings.{nodes_take}
+use Rattle.schedule_text.proofs.TxnReadings.{txn_takes}
 
 -- ---- first words
 

@@ -1,6 +1,6 @@
 -- The words of an event are read as it.
-use Rattle.std.proofs.Common.{◌≡◌, ℕ, zero, suc, ◌-◌, ◌^◌, ◌<◌, ◌≤◌, Bool, true, false, List, [], ◌∷◌, length, map, All, Option, Some, None, Ok, refl, sym, ◌∙◌, ap, arith, codes, decimal}
-use Rattle.std.specs.Prelude.{nat_le, nat_lt, ◌==◌, ◌&&◌, ◌||◌}
+use Rattle.std.proofs.Common.{◌≡◌, ℕ, zero, suc, ◌-◌, ◌^◌, ◌<◌, ◌≤◌, Bool, true, false, List, [], ◌∷◌, length, map, All, Option, Ok, refl, arith, decimal}
+use Rattle.std.specs.Prelude.{nat_le, ◌==◌, ◌&&◌, ◌||◌}
 use Rattle.std.specs.List.{list_all}
 use Rattle.std.proofs.lemmas.Bool.{eqb-true}
 use Rattle.std.proofs.lemmas.Bool.Decides.{nat_tests}
@@ -9,13 +9,13 @@ use Rattle.tcs_terms.specs.declared.inputs.Input.{Input}
 use Rattle.tcs_terms.specs.declared.inputs.Input.TheVariants as inputs
 use Rattle.tcs_terms.specs.declared.inputs.Event.{Event}
 use Rattle.tcs_terms.specs.declared.inputs.Event.TheVariants as events
-use Rattle.tcs_terms.specs.declared.limits.TheConstants.{MAX_WANTED, MAX_SEQUENCE}
-use Rattle.tcs_terms.specs.Events.{has_shard, may_be_of, input_fits, event_fits}
+use Rattle.tcs_terms.specs.declared.limits.TheConstants.{MAX_WANTED}
+use Rattle.tcs_terms.specs.Events.{has_shard, input_fits, event_fits}
 use Rattle.tcs_terms.specs.Order.{ascends}
 use Rattle.tcs_terms.specs.Payloads.{Accesses}
 use Rattle.tcs_terms.specs.PayloadWords.{FitsVersion}
 use Rattle.tcs_terms.specs.Setups.{Deployment, has_node, is_node_of}
-use Rattle.tcs_terms.proofs.BoolLaws.{both, left_of, right_of}
+use Rattle.tcs_terms.proofs.BoolLaws.{left_of, right_of}
 use Rattle.tcs_terms.proofs.PayloadReadings.{payload_words, payload_again}
 use Rattle.schedule_text.specs.declared.verbs.CallVerb.{CallVerb}
 use Rattle.schedule_text.specs.declared.verbs.CallVerb.TheVariants as calls
@@ -23,14 +23,14 @@ use Rattle.schedule_text.specs.declared.verbs.Verb.{Verb}
 use Rattle.schedule_text.specs.declared.verbs.Verb.TheVariants as verbs
 use Rattle.schedule_text.specs.Text.{txn_text}
 use Rattle.schedule_text.specs.Whole.{IsInput, IsEvent}
-use Rattle.schedule_text.specs.Words.{◌>>=◌, is_for, nodes_at}
+use Rattle.schedule_text.specs.Words.{is_for}
 use Rattle.schedule_text.specs.Events.{alone_at, certify_at, take_at, move_at, read_at, ask_at, input_at, call_at, delivery_at, stop_at, event_at}
 use Rattle.schedule_text.proofs.CursorLemmas.{name_at_again}
 use Rattle.schedule_text.proofs.EventReadings.{call_word, verb_word, ascend_from_zero}
 use Rattle.schedule_text.proofs.LineWords.{call_words, event_words, IsSpellable, IsSpellableEvent}
 use Rattle.schedule_text.proofs.NumberReadings.{between_again, caller_again}
 use Rattle.schedule_text.proofs.NodeReadings.{nodes_again, small_node}
-use Rattle.schedule_text.proofs.TxnReadings.{may_be, small_txn, txn_again}
+use Rattle.schedule_text.proofs.TxnReadings.{small_txn, txn_again}
 
 -- the numbers of the setup are small
 pub record Small (d : Deployment) : Type 0 where
@@ -54,7 +54,7 @@ pub record MoveFits (d : Deployment) (shard : ℕ) (want : List ℕ) : Type 0 wh
   pub ascend : ascends want ≡ true
   pub each : list_all (is_node_of d.nodes shard) want ≡ true
 
-move_fits : (d : Deployment) (shard : ℕ) (want : List ℕ) → input_fits d (inputs.Move shard want) ≡ true → MoveFits d shard want
+pub move_fits : (d : Deployment) (shard : ℕ) (want : List ℕ) → input_fits d (inputs.Move shard want) ≡ true → MoveFits d shard want
 move_fits d shard want h =
     let a = left_of (has_shard d shard && nat_le (length want) MAX_WANTED && ascends want) (list_all (is_node_of d.nodes shard) want) h in
     let b = left_of (has_shard d shard && nat_le (length want) MAX_WANTED) (ascends want) a in

@@ -1,38 +1,33 @@
 -- A line of the header that is read is the next one of a setup.
-use Rattle.std.proofs.Common.{◌≡◌, inl, inr, ℕ, zero, suc, ◌+◌, ◌^◌, ◌<◌, ◌≤◌, Bool, true, false, not, cond, is_none, List, [], ◌∷◌, ◌++◌, length, map, get_or, All, Option, Some, None, Ok, Err, refl, sym, ◌∙◌, ap, subst, append_assoc, arith, codes, decimal}
+use Rattle.std.proofs.Common.{◌≡◌, inl, inr, ℕ, zero, suc, ◌+◌, ◌^◌, ◌<◌, ◌≤◌, Bool, true, false, not, cond, is_none, List, [], ◌∷◌, ◌++◌, length, map, All, Option, Some, None, Ok, Err, refl, sym, ◌∙◌, ap, subst, append_assoc, arith, codes, decimal}
 use Rattle.std.specs.Prelude.{nat_le, nat_lt, ◌==◌, ◌&&◌}
-use Rattle.std.specs.List.{list_all}
 use Rattle.std.proofs.lemmas.Bool.{eqb-true}
 use Rattle.std.proofs.lemmas.Bool.Decides.{nat_tests}
 use Rattle.std.proofs.lemmas.List.{nil_from_length, append-nil, length-append}
-use Rattle.tcs_terms.specs.declared.faults.BadConfig.{BadConfig}
-use Rattle.tcs_terms.specs.declared.faults.BadSetup.{BadSetup}
 use Rattle.tcs_terms.specs.declared.limits.TheConstants.{MAX_SHARDS, MAX_NODES, MAX_MEMBERS}
 use Rattle.tcs_terms.specs.declared.setups.Rule.{Rule}
 use Rattle.tcs_terms.specs.declared.setups.Rule.TheVariants as rules
-use Rattle.tcs_terms.specs.declared.words.Reason.{Reason}
 use Rattle.tcs_terms.specs.declared.words.Reason.TheVariants as reasons
 use Rattle.tcs_terms.specs.ConfigFaults.{config_fault}
 use Rattle.tcs_terms.specs.Places.{Membership, IsMembership}
 use Rattle.tcs_terms.specs.SetupFaults.{setup_fault}
-use Rattle.tcs_terms.specs.Setups.{Deployment, IsDeployment, is_node_of}
+use Rattle.tcs_terms.specs.Setups.{Deployment, IsDeployment}
 use Rattle.tcs_terms.specs.Words.{words_of, begins, after}
-use Rattle.tcs_terms.proofs.BoolLaws.{both, left_of, right_of}
 use Rattle.tcs_terms.proofs.PlaceLaws.{is_membership_without_fault}
 use Rattle.tcs_terms.proofs.SetupLaws.{is_deployment_without_fault}
 use Rattle.schedule_text.specs.declared.places.Place.{Place}
 use Rattle.schedule_text.specs.declared.places.Place.TheVariants as places
 use Rattle.schedule_text.specs.Text.{rule_text, version_line, certifier_line, shards_line, node_line, node_lines, config_line, first_lines, setup_lines}
-use Rattle.schedule_text.specs.Words.{◌>>=◌, fixed_at, end_at, number_at, between_at, node_of_at, nodes_at}
-use Rattle.schedule_text.specs.Header.{Head, HeadRead, rule_of, rule_or, rule_at, version_at, certifier_at, shards_at, next_at, node_at, shard_in_order_at, members_at, config_or, first_config_at, config_at, setup_or, begun_at, has_place_for, events_at, part_at, head_at}
-use Rattle.schedule_text.proofs.EventReadings.{named, some_is}
+use Rattle.schedule_text.specs.Words.{fixed_at, end_at, number_at, between_at, node_of_at, nodes_at}
+use Rattle.schedule_text.specs.Header.{Head, rule_of, rule_or, rule_at, version_at, certifier_at, shards_at, next_at, node_at, shard_in_order_at, members_at, first_config_at, config_at, setup_or, begun_at, has_place_for, events_at, part_at, head_at}
+use Rattle.schedule_text.proofs.EventReadings.{named}
 use Rattle.schedule_text.proofs.EventSpellings.{small_nodes}
 use Rattle.schedule_text.proofs.LineWords.{words_of_version, words_of_certifier, words_of_shards, words_of_node, words_of_config}
 use Rattle.schedule_text.proofs.NodeReadings.{nodes_take}
 use Rattle.schedule_text.proofs.NumberReadings.{begun, fixed_takes, end_takes, number_read, between_takes, node_of_takes}
 use Rattle.schedule_text.proofs.PrintLemmas.{node_lines_end}
 use Rattle.schedule_text.proofs.Spaces.{same_words}
-use Rattle.schedule_text.proofs.Steps.{bind_ok, met, chosen, ok_is}
+use Rattle.schedule_text.proofs.Steps.{bind_ok, met, ok_is}
 
 -- ---- where a reader stands in the header
 
@@ -315,8 +310,8 @@ part_takes only d line x stands h = node_or (length d.configs == 0) (begins (cod
 
   node_or : (a b : Bool) → (length d.configs == 0) ≡ a → begins (codes "node") (words_of line) ≡ b
       → cond (a && b) (node_at d (after (words_of line)))
-          (cond ((not (length d.nodes == 0) && nat_lt (length d.configs) d.shards) && begins (codes "config") (words_of line)) (config_at d (after (words_of line))) (events_at only d (words_of line)))
-          ≡ Ok x
+      (cond ((not (length d.nodes == 0) && nat_lt (length d.configs) d.shards) && begins (codes "config") (words_of line)) (config_at d (after (words_of line))) (events_at only d (words_of line)))
+      ≡ Ok x
       → HeadStep places.Parts d line x
   node_or true true e f k = node_takes d line (after (words_of line)) x stands (nil_from_length d.configs (eqb-true _ _ e)) (begun (codes "node") (words_of line) f) k
   node_or true false e f k = config_or_events (not (length d.nodes == 0) && nat_lt (length d.configs) d.shards) (begins (codes "config") (words_of line)) refl k

@@ -1,26 +1,23 @@
 -- The lines of a setup are read as they stand.
-use Rattle.std.proofs.Common.{◌≡◌, ℕ, zero, suc, ◌+◌, ◌^◌, ◌<◌, ◌≤◌, Bool, true, false, not, is_none, List, [], ◌∷◌, ◌++◌, length, map, All, Option, Some, None, Ok, refl, sym, ◌∙◌, ap, subst, append_assoc, arith, codes, decimal}
+use Rattle.std.proofs.Common.{◌≡◌, ℕ, ◌+◌, ◌^◌, ◌<◌, ◌≤◌, Bool, true, false, not, List, [], ◌∷◌, ◌++◌, length, map, Option, Some, None, Ok, refl, sym, ◌∙◌, ap, subst, arith, codes, decimal}
 use Rattle.std.specs.Prelude.{nat_le, nat_lt, ◌==◌, ◌&&◌, ◌||◌}
 use Rattle.std.specs.List.{list_all}
 use Rattle.std.proofs.lemmas.Bool.{eqb-true}
 use Rattle.std.proofs.lemmas.Bool.Decides.{nat_tests}
-use Rattle.std.proofs.lemmas.List.{append-nil, length-append, length-map}
+use Rattle.std.proofs.lemmas.List.{length-map}
 use Rattle.tcs_terms.specs.declared.limits.TheConstants.{MAX_SHARDS, MAX_NODES, MAX_MEMBERS}
 use Rattle.tcs_terms.specs.declared.setups.Rule.{Rule}
 use Rattle.tcs_terms.specs.declared.setups.Rule.TheVariants as rules
 use Rattle.tcs_terms.specs.ConfigFaults.{config_fault}
 use Rattle.tcs_terms.specs.Places.{Membership, IsMembership, is_among}
-use Rattle.tcs_terms.specs.SetupFaults.{setup_fault, firsts_from}
 use Rattle.tcs_terms.specs.Setups.{Deployment, IsDeployment, has_node, is_node_of, is_first}
-use Rattle.tcs_terms.proofs.BoolLaws.{both, left_of, right_of}
+use Rattle.tcs_terms.proofs.BoolLaws.{left_of, right_of}
 use Rattle.tcs_terms.proofs.PlaceLaws.{no_fault_of_a_membership}
 use Rattle.tcs_terms.proofs.SetupLaws.{no_fault_of_a_deployment}
 use Rattle.schedule_text.specs.declared.places.Place.TheVariants as places
-use Rattle.schedule_text.specs.Text.{rule_text, version_line, certifier_line, shards_line, node_line, node_lines, config_line, first_lines, setup_lines}
-use Rattle.schedule_text.specs.Words.{◌>>=◌}
-use Rattle.schedule_text.specs.Header.{Head, rule_at, version_at, certifier_at, shards_at, next_at, node_at, shard_in_order_at, members_at, config_or, first_config_at, config_at, setup_or, begun_at, has_place_for, events_at, part_at, head_at}
+use Rattle.schedule_text.specs.Text.{rule_text}
+use Rattle.schedule_text.specs.Header.{rule_at, version_at, certifier_at, shards_at, next_at, node_at, shard_in_order_at, members_at, first_config_at, config_at, begun_at, has_place_for, events_at, part_at, head_at}
 use Rattle.schedule_text.proofs.EventReadings.{ascend_from_zero}
-use Rattle.schedule_text.proofs.EventSpellings.{small_nodes}
 use Rattle.schedule_text.proofs.NodeReadings.{nodes_again, small_node}
 use Rattle.schedule_text.proofs.NumberReadings.{number_reads, between_again, node_of_again}
 

@@ -12,6 +12,7 @@ pub mod NumberReadings
 pub mod PrintLemmas
 pub mod ScheduleReadings
 pub mod ScheduleSpellings
+pub mod ShortLines
 pub mod Spaces
 pub mod Steps
 pub mod TxnReadings

@@ -1,9 +1,5 @@
 -- The words of each line.
-use Rattle.std.proofs.Common.{◌≡◌, ℕ, ◌^◌, ◌<◌, ◌≤◌, true, List, [], ◌∷◌, ◌++◌, length, map, All, IsTrue, refl, sym, ◌∙◌, ap, arith, codes, decimal}
-use Rattle.std.specs.Prelude.{nat_le, ◌==◌, ◌&&◌}
-use Rattle.std.specs.List.{list_all}
-use Rattle.std.proofs.lemmas.Bool.Decides.{nat_tests}
-use Rattle.tcs_terms.specs.declared.ids.TxId.{TxId}
+use Rattle.std.proofs.Common.{◌≡◌, ℕ, ◌^◌, ◌<◌, List, [], ◌∷◌, ◌++◌, map, All, refl, ◌∙◌, ap, arith, codes, decimal}
 use Rattle.tcs_terms.specs.declared.inputs.Input.{Input}
 use Rattle.tcs_terms.specs.declared.inputs.Input.TheVariants.{Certify, Take, Nudge, Move, Lower, ReadName, Ask, Deliver}
 use Rattle.tcs_terms.specs.declared.inputs.Event.{Event}
@@ -11,7 +7,7 @@ use Rattle.tcs_terms.specs.declared.inputs.Event.TheVariants.{Call, DeliverNumbe
 use Rattle.tcs_terms.specs.declared.setups.Rule.{Rule}
 use Rattle.tcs_terms.specs.declared.setups.Rule.TheVariants as rules
 use Rattle.tcs_terms.specs.Objects.{IsName}
-use Rattle.tcs_terms.specs.Payloads.{Accesses, IsPayload}
+use Rattle.tcs_terms.specs.Payloads.{IsPayload}
 use Rattle.tcs_terms.specs.PayloadText.{payload_text}
 use Rattle.tcs_terms.specs.Places.{Membership}
 use Rattle.tcs_terms.specs.Words.{words_of}

@@ -1,6 +1,6 @@
 -- Nodes that are read are those that are printed, and what is printed is read again.
 use Rattle.std.proofs.Common.{◌≡◌, ℕ, zero, suc, ◌^◌, ◌<◌, ◌≤◌, Bool, true, false, cond, List, [], ◌∷◌, length, map, Ok, Err, refl, ◌∙◌, ap, subst, arith}
-use Rattle.std.specs.Prelude.{nat_le, nat_lt, ◌==◌, ◌&&◌, decimal}
+use Rattle.std.specs.Prelude.{nat_lt, ◌==◌, decimal}
 use Rattle.std.specs.List.{list_all}
 use Rattle.std.proofs.lemmas.Bool.{eqb-true}
 use Rattle.std.proofs.lemmas.Bool.Decides.{nat_tests}
@@ -9,7 +9,7 @@ use Rattle.tcs_terms.specs.Order.{ascends}
 use Rattle.tcs_terms.specs.Setups.{has_node, is_node_of}
 use Rattle.tcs_terms.proofs.BoolLaws.{both, left_of, right_of}
 use Rattle.std.proofs.lemmas.List.{nil_from_length}
-use Rattle.schedule_text.specs.Words.{◌>>=◌, next_node_at, nodes_at, no_room}
+use Rattle.schedule_text.specs.Words.{◌>>=◌, next_node_at, nodes_at}
 use Rattle.schedule_text.proofs.Steps.{bind_ok, ok_is}
 use Rattle.schedule_text.proofs.NumberReadings.{next_node_takes, next_node_again}
 

@@ -1,5 +1,5 @@
 -- A number that is read is the one that is printed, and what is printed is read again.
-use Rattle.std.proofs.Common.{◌≡◌, ℕ, ◌^◌, ◌<◌, ◌≤◌, Bool, true, List, [], ◌∷◌, length, Option, None, Result, Ok, Err, refl, ◌∙◌, ap, subst, arith}
+use Rattle.std.proofs.Common.{◌≡◌, ℕ, ◌^◌, ◌<◌, ◌≤◌, Bool, true, List, [], ◌∷◌, length, Option, Ok, Err, refl, ◌∙◌, ap, subst, arith}
 use Rattle.std.specs.Prelude.{nat_le, nat_lt, ◌==◌, ◌&&◌, decimal, if◌then◌else◌}
 use Rattle.std.proofs.lemmas.Bool.{eqb-true}
 use Rattle.std.proofs.lemmas.Bool.Decides.{nat_tests}
@@ -10,10 +10,10 @@ use Rattle.tcs_terms.specs.declared.words.Reason.TheVariants as reasons
 use Rattle.tcs_terms.specs.Setups.{has_node, is_node_of}
 use Rattle.tcs_terms.specs.PayloadWords.{number_word}
 use Rattle.tcs_terms.specs.Words.{begins, after}
-use Rattle.tcs_terms.proofs.BoolLaws.{both, left_of, right_of}
+use Rattle.tcs_terms.proofs.BoolLaws.{both}
 use Rattle.tcs_terms.proofs.WordReadings.{number_takes, number_again}
 use Rattle.schedule_text.specs.Words.{◌>>=◌, fixed_at, end_at, number_at, between_at, is_for, caller_at, node_of_at, next_node_at}
-use Rattle.schedule_text.proofs.Steps.{bind_ok, reasoned_ok, met, ok_is}
+use Rattle.schedule_text.proofs.Steps.{bind_ok, reasoned_ok, met}
 
 -- ---- words that are fixed, and the end
 

@@ -1,14 +1,11 @@
 -- Lines that are read, one after the other, are the lines of a schedule.
-use Rattle.std.proofs.Common.{◌≡◌, ℕ, ◌+◌, ◌^◌, ◌<◌, ◌≤◌, Bool, true, false, cond, List, [], ◌∷◌, ◌++◌, length, map, All, Option, Some, None, Ok, Err, refl, sym, ◌∙◌, ap, subst, append_assoc, arith, codes}
-use Rattle.std.specs.Prelude.{nat_lt, ◌==◌, ◌||◌, ◌&&◌}
+use Rattle.std.proofs.Common.{◌≡◌, ℕ, ◌+◌, ◌<◌, ◌≤◌, Bool, true, false, cond, List, [], ◌∷◌, ◌++◌, length, map, Option, Some, None, Ok, refl, sym, ◌∙◌, ap, subst, append_assoc, arith, codes}
+use Rattle.std.specs.Prelude.{nat_lt}
 use Rattle.std.specs.List.{AllByRecursion}
 use Rattle.std.proofs.lemmas.Bool.Decides.{nat_tests}
 use Rattle.std.proofs.lemmas.List.{append-nil, length-append}
 use Rattle.tcs_terms.specs.declared.inputs.Event.{Event}
-use Rattle.tcs_terms.specs.declared.limits.TheConstants.{MAX_SHARDS, MAX_NODES}
-use Rattle.tcs_terms.specs.declared.words.Reason.{Reason}
 use Rattle.tcs_terms.specs.declared.words.Reason.TheVariants as reasons
-use Rattle.tcs_terms.specs.Places.{IsMembership}
 use Rattle.tcs_terms.specs.Setups.{Deployment, IsDeployment}
 use Rattle.tcs_terms.specs.Words.{words_of, begins, after}
 use Rattle.schedule_text.specs.declared.limits.TheConstants.{EVENT_LIMIT}
@@ -18,16 +15,16 @@ use Rattle.schedule_text.specs.declared.places.Place.TheVariants as places
 use Rattle.schedule_text.specs.declared.reader.LineItem.{LineItem}
 use Rattle.schedule_text.specs.declared.reader.LineItem.TheVariants as items
 use Rattle.schedule_text.specs.declared.verbs.Verb.{Verb}
-use Rattle.schedule_text.specs.Text.{first_lines, node_lines, config_line, setup_lines, event_line, schedule_lines}
-use Rattle.schedule_text.specs.Words.{◌>>=◌, end_at}
-use Rattle.schedule_text.specs.Header.{Head, head_at}
+use Rattle.schedule_text.specs.Text.{setup_lines, event_line, schedule_lines}
+use Rattle.schedule_text.specs.Words.{end_at}
+use Rattle.schedule_text.specs.Header.{head_at}
 use Rattle.schedule_text.specs.Events.{verb_of, event_at}
-use Rattle.schedule_text.specs.Schedules.{Progress, at_start, head_item, header_line_at, end_line_at, counted_event_at, verb_line_at, first_verb, event_line_at, line_at, line_reading}
-use Rattle.schedule_text.specs.Whole.{IsEvent, MayStand, IsSchedule, IsRead, reads, header_items, schedule_items}
+use Rattle.schedule_text.specs.Schedules.{Progress, at_start, head_item, header_line_at, end_line_at, counted_event_at, verb_line_at, first_verb, event_line_at, line_reading}
+use Rattle.schedule_text.specs.Whole.{MayStand, IsRead, Begins, reads, header_items, schedule_items}
 use Rattle.schedule_text.proofs.EventReadings.{verb_word, verb_named, event_takes}
 use Rattle.schedule_text.proofs.EventSpellings.{Small, spellable}
-use Rattle.schedule_text.proofs.HeaderReadings.{head_lines, HeadStands, HeadItem, HeadStep, in_header, head_takes, map_end}
-use Rattle.schedule_text.proofs.LineWords.{event_words, words_of_event}
+use Rattle.schedule_text.proofs.HeaderReadings.{head_lines, HeadStands, HeadItem, in_header, head_takes, map_end}
+use Rattle.schedule_text.proofs.LineWords.{words_of_event}
 use Rattle.schedule_text.proofs.NumberReadings.{begun, end_takes}
 use Rattle.schedule_text.proofs.Spaces.{same_words}
 use Rattle.schedule_text.proofs.Steps.{bind_ok, chosen, ok_is}
@@ -291,3 +288,21 @@ pub read_to_the_end : (lines : List (List ℕ)) (is : List LineItem) (p : Progre
 read_to_the_end lines is p h end =
     let r = reads_take lines at_start [] (is, p) start_stands h in
     ended p.head.place p.head.setup p.count r.more lines is end r.stands r.lines_are r.items_are
+
+begun_only : (place : Place) (d : Deployment) (count : ℕ) (es : List Event) (lines : List (List ℕ)) → place ≡ places.Events → Stands (at place d count) es → lines_at place d es ≡ lines → Begins d lines
+begun_only places.Version d count es lines here stands l = absurd cc
+begun_only places.Certifier d count es lines here stands l = absurd cc
+begun_only places.Shards d count es lines here stands l = absurd cc
+begun_only places.Parts d count es lines here stands l = absurd cc
+begun_only places.Events d count es lines here stands l = record {
+  events = es;
+  schedule = record { setup = stands.head; events = stands.events.0; few = stands.events.2 };
+  more = codes "end" ∷ [];
+  whole = sym (append_assoc (setup_lines d) (map event_line es) (codes "end" ∷ [])) ∙ ap (λ (ls : List (List ℕ)). ls ++ codes "end" ∷ []) l;
+}
+begun_only places.Ended d count es lines here stands l = absurd cc
+
+pub begins_a_schedule : (lines : List (List ℕ)) (is : List LineItem) (p : Progress) → reads at_start lines ≡ Ok (is, p) → p.head.place ≡ places.Events → Begins p.head.setup lines
+begins_a_schedule lines is p h here =
+    let r = reads_take lines at_start [] (is, p) start_stands h in
+    begun_only p.head.place p.head.setup p.count r.more lines here r.stands r.lines_are

@@ -1,5 +1,5 @@
 -- The lines of a schedule are read as they stand, and a line that is refused continues no schedule.
-use Rattle.std.proofs.Common.{◌≡◌, ℕ, zero, suc, ◌+◌, ◌^◌, ◌<◌, ◌≤◌, Bool, true, false, not, List, [], ◌∷◌, ◌++◌, length, map, All, IsTrue, Option, Some, None, Ok, Err, refl, sym, ◌∙◌, ap, subst, append_assoc, arith, codes}
+use Rattle.std.proofs.Common.{◌≡◌, ℕ, suc, ◌+◌, ◌^◌, ◌<◌, ◌≤◌, Bool, true, false, not, List, [], ◌∷◌, ◌++◌, length, map, All, Option, None, Ok, Err, refl, sym, ◌∙◌, ap, append_assoc, arith, codes}
 use Rattle.std.specs.Prelude.{nat_le, nat_lt, ◌==◌, ◌||◌, ◌&&◌}
 use Rattle.std.specs.List.{list_all, AllByRecursion}
 use Rattle.std.proofs.lemmas.Bool.{eqb-true}
@@ -10,7 +10,7 @@ use Rattle.tcs_terms.specs.declared.inputs.Event.TheVariants.{Call, DeliverNumbe
 use Rattle.tcs_terms.specs.declared.limits.TheConstants.{MAX_SHARDS, MAX_NODES}
 use Rattle.tcs_terms.specs.declared.words.Reason.{Reason}
 use Rattle.tcs_terms.specs.Places.{Membership, IsMembership}
-use Rattle.tcs_terms.specs.SetupFaults.{may_be_nodes, setup_fault, firsts_from}
+use Rattle.tcs_terms.specs.SetupFaults.{may_be_nodes, firsts_from}
 use Rattle.tcs_terms.specs.Setups.{Deployment, IsDeployment, is_node_of, is_first}
 use Rattle.tcs_terms.specs.Words.{words_of, begins}
 use Rattle.tcs_terms.specs.declared.faults.BadSetup.TheVariants as faults
@@ -26,12 +26,11 @@ use Rattle.schedule_text.specs.declared.verbs.CallVerb.TheVariants as calls
 use Rattle.schedule_text.specs.declared.verbs.Verb.{Verb}
 use Rattle.schedule_text.specs.declared.verbs.Verb.TheVariants as verbs
 use Rattle.schedule_text.specs.Text.{version_line, certifier_line, shards_line, node_line, first_lines, node_lines, config_line, setup_lines, event_line, schedule_lines}
-use Rattle.schedule_text.specs.Words.{◌>>=◌}
 use Rattle.schedule_text.specs.Header.{Head, head_at, no_parts}
-use Rattle.schedule_text.specs.Schedules.{Progress, at_start, head_item, header_line_at, end_line_at, counted_event_at, first_verb, event_line_at, line_reading}
-use Rattle.schedule_text.specs.Whole.{IsEvent, MayStand, IsSchedule, reads, header_items, schedule_items, at_end}
+use Rattle.schedule_text.specs.Schedules.{Progress, at_start, head_item, header_line_at, end_line_at, counted_event_at, event_line_at, line_reading}
+use Rattle.schedule_text.specs.Whole.{MayStand, IsSchedule, reads, header_items, schedule_items, at_end}
 use Rattle.schedule_text.proofs.EventReadings.{verb_word, names_verb}
-use Rattle.schedule_text.proofs.EventSpellings.{Small, spellable, EventAgain, event_again, names_only, small_nodes}
+use Rattle.schedule_text.proofs.EventSpellings.{Small, spellable, event_again, names_only, small_nodes}
 use Rattle.schedule_text.proofs.HeaderReadings.{in_header}
 use Rattle.schedule_text.proofs.HeaderSpellings.{ConfigFits, version_again, certifier_again, shards_again, node_again, config_again, events_again, among_is}
 use Rattle.schedule_text.proofs.LineWords.{words_of_version, words_of_certifier, words_of_shards, words_of_node, words_of_config, words_of_event}

@@ -1,13 +1,12 @@
 -- Words without a space, and texts that are words with a byte between them.
 use Rattle.std.proofs.Common.{◌≡◌, ℕ, zero, suc, ◌+◌, ◌^◌, ◌<◌, Bool, true, false, not, cond, List, [], ◌∷◌, ◌++◌, length, map, take, drop, All, Some, None, refl, sym, ◌∙◌, ap, arith}
-use Rattle.std.specs.Prelude.{position, nat_lt, ◌==◌, ◌&&◌, decimal}
+use Rattle.std.specs.Prelude.{position, nat_lt, ◌==◌, decimal}
 use Rattle.std.specs.Char.{is_ascii_digit}
-use Rattle.std.specs.List.{list_all, flat_map, position_or_len, slice_split, join_with_byte}
-use Rattle.std.proofs.lemmas.Bool.{ltb-true, ltb-false}
+use Rattle.std.specs.List.{list_all, position_or_len, slice_split, join_with_byte}
+use Rattle.std.proofs.lemmas.Bool.{ltb-true}
 use Rattle.std.proofs.lemmas.Bool.Decides.{nat_tests}
 use Rattle.std.proofs.lemmas.Fmt.{digits_decimal}
 use Rattle.std.proofs.lemmas.List.{append-nil, length-append}
-use Rattle.std.proofs.lemmas.List.Sums.{fails_before_first}
 use Rattle.std.proofs.lemmas.List.Splits.{slice_split_none, slice_split_at, slice_split_first, length-slice_split, join_with_byte-slice_split}
 use Rattle.tcs_terms.specs.Objects.{is_name_byte, IsName}
 use Rattle.tcs_terms.specs.Words.{words_of}
@@ -24,7 +23,7 @@ is_free c b = not (b == c)
 abbrev pub Free : ℕ → List ℕ → Type 0
 Free c w = list_all (is_free c) w ≡ true
 
-weaker : (f g : ℕ → Bool) → ((b : ℕ) → f b ≡ true → g b ≡ true) → (w : List ℕ) → list_all f w ≡ true → list_all g w ≡ true
+pub weaker : (f g : ℕ → Bool) → ((b : ℕ) → f b ≡ true → g b ≡ true) → (w : List ℕ) → list_all f w ≡ true → list_all g w ≡ true
 weaker f g step [] h = refl
 weaker f g step (b ∷ bs) h = both (g b) (list_all g bs) (step b (left_of (f b) (list_all f bs) h)) (weaker f g step bs (right_of (f b) (list_all f bs) h))
 

@@ -1,5 +1,5 @@
 -- A transaction that is read is the one that is printed, and what is printed is read again.
-use Rattle.std.proofs.Common.{◌≡◌, ℕ, zero, suc, ◌+◌, ◌-◌, ◌^◌, ◌<◌, ◌≤◌, Bool, true, false, not, cond, List, [], ◌∷◌, ◌++◌, length, get_or, take, drop, All, Option, Some, None, Ok, Err, refl, sym, ◌∙◌, ap, subst, append_assoc, arith}
+use Rattle.std.proofs.Common.{◌≡◌, ℕ, ◌+◌, ◌^◌, ◌<◌, Bool, true, false, not, cond, List, [], ◌∷◌, ◌++◌, length, take, drop, Option, Some, None, Ok, refl, sym, ◌∙◌, ap, subst, append_assoc, arith}
 use Rattle.std.specs.Prelude.{position, nat_le, nat_lt, ◌==◌, ◌&&◌, ◌||◌, decimal}
 use Rattle.std.specs.List.{list_all}
 use Rattle.std.specs.Str.Parse.{digits_value}
@@ -7,14 +7,13 @@ use Rattle.std.proofs.lemmas.Bool.Decides.{nat_tests}
 use Rattle.std.proofs.lemmas.List.{length-append, take_at, drop_at}
 use Rattle.tcs_terms.specs.declared.ids.TxId.{TxId}
 use Rattle.tcs_terms.specs.declared.limits.TheConstants.{MAX_SEQUENCE}
-use Rattle.tcs_terms.specs.declared.words.Reason.{Reason}
 use Rattle.tcs_terms.specs.declared.words.Reason.TheVariants as reasons
 use Rattle.tcs_terms.specs.PayloadWords.{is_numeral, is_printable, misfit, number_in, number_or, number_word}
 use Rattle.tcs_terms.specs.Setups.{has_node}
-use Rattle.tcs_terms.proofs.BoolLaws.{both, left_of, right_of}
+use Rattle.tcs_terms.proofs.BoolLaws.{left_of, right_of}
 use Rattle.tcs_terms.proofs.WordReadings.{number_takes, number_again}
 use Rattle.schedule_text.specs.Text.{txn_text}
-use Rattle.schedule_text.specs.Words.{◌>>=◌, txn_numbers, txn_parts, txn_in, txn_at}
+use Rattle.schedule_text.specs.Words.{txn_numbers, txn_parts, txn_in, txn_at}
 use Rattle.schedule_text.proofs.Steps.{bind_ok, ok_is, met, chosen}
 use Rattle.schedule_text.proofs.Spaces.{free_decimal, first_place, split_at_first}
 

@@ -1,6 +1,5 @@
 -- How the lines of a schedule are read, one after the other.
-use Rattle.std.specs.Prelude.{◌≡◌, ℕ, ◌+◌, Bool, true, false, not, ◌==◌, nat_lt, if◌then◌else◌, List, [], ◌∷◌, ◌++◌, length, codes, Option, Some, None, Result, Ok, Err}
-use Rattle.tcs_terms.specs.declared.inputs.Event.{Event}
+use Rattle.std.specs.Prelude.{ℕ, ◌+◌, Bool, true, false, nat_lt, if◌then◌else◌, List, [], ◌∷◌, codes, Option, Some, None, Result, Ok, Err}
 use Rattle.tcs_terms.specs.declared.words.Reason.{Reason}
 use Rattle.tcs_terms.specs.declared.words.Reason.TheVariants as reasons
 use Rattle.tcs_terms.specs.Setups.{Deployment}

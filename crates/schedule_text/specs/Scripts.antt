@@ -1,5 +1,5 @@
 -- How the lines of a script are read, one after the other: a schedule without deliveries, with lines that let time pass.
-use Rattle.std.specs.Prelude.{◌≡◌, ℕ, ◌+◌, Bool, ◌&&◌, nat_le, nat_lt, if◌then◌else◌, List, [], ◌∷◌, codes, Option, Some, None, Result, Ok, Err}
+use Rattle.std.specs.Prelude.{ℕ, ◌+◌, ◌&&◌, nat_le, nat_lt, if◌then◌else◌, List, codes, Option, Some, None, Result, Ok, Err}
 use Rattle.tcs_terms.specs.declared.words.Reason.{Reason}
 use Rattle.tcs_terms.specs.declared.words.Reason.TheVariants as reasons
 use Rattle.tcs_terms.specs.Setups.{Deployment}
@@ -13,7 +13,6 @@ use Rattle.schedule_text.specs.declared.script.ScriptForm.{ScriptForm}
 use Rattle.schedule_text.specs.declared.script.ScriptForm.TheVariants as forms
 use Rattle.schedule_text.specs.declared.script.ScriptItem.{ScriptItem}
 use Rattle.schedule_text.specs.declared.script.ScriptItem.TheVariants as items
-use Rattle.schedule_text.specs.declared.verbs.CallVerb.{CallVerb}
 use Rattle.schedule_text.specs.declared.verbs.Verb.{Verb}
 use Rattle.schedule_text.specs.declared.verbs.Verb.TheVariants as verbs
 use Rattle.schedule_text.specs.Words.{◌>>=◌, end_at, number_at, between_at}

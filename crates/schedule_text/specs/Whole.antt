@@ -1,5 +1,5 @@
 -- Whole schedules: which events may stand in one, and how all of its lines are read.
-use Rattle.std.specs.Prelude.{◌≡◌, ℕ, ◌+◌, ◌<◌, ◌≤◌, ◌^◌, List, [], ◌∷◌, ◌++◌, length, map, IsTrue, Result, Ok, Err}
+use Rattle.std.specs.Prelude.{◌≡◌, ℕ, ◌<◌, ◌≤◌, ◌^◌, List, [], ◌∷◌, ◌++◌, length, map, IsTrue, Result, Ok}
 use Rattle.std.specs.List.{AllByRecursion}
 use Rattle.tcs_terms.specs.declared.inputs.Input.{Input}
 use Rattle.tcs_terms.specs.declared.inputs.Input.TheVariants.{Certify, Take, Nudge, Move, Lower, ReadName, Ask, Deliver}
@@ -17,7 +17,7 @@ use Rattle.schedule_text.specs.declared.reader.LineItem.{LineItem}
 use Rattle.schedule_text.specs.declared.reader.LineItem.TheVariants as items
 use Rattle.schedule_text.specs.Text.{first_lines, node_lines, config_line, schedule_lines}
 use Rattle.schedule_text.specs.Words.{◌>>=◌}
-use Rattle.schedule_text.specs.Schedules.{Progress, at_start, line_reading}
+use Rattle.schedule_text.specs.Schedules.{Progress, line_reading}
 
 -- the values that an input can have: a payload is well formed, and a name is one
 abbrev pub IsInput : Input → Type 0
@@ -70,3 +70,10 @@ pub record IsRead (d : Deployment) (count : ℕ) (lines : List (List ℕ)) (is :
   pub counted : count ≡ length events
   pub lines_are : lines ≡ schedule_lines d events
   pub items_are : is ≡ schedule_items d events
+
+-- a schedule of the setup begins with these lines
+pub record Begins (d : Deployment) (lines : List (List ℕ)) : Type 0 where
+  pub events : List Event
+  pub schedule : IsSchedule d events
+  pub more : List (List ℕ)
+  pub whole : schedule_lines d events ≡ lines ++ more

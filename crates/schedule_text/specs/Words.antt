@@ -1,6 +1,6 @@
 -- How the words of a line are read, from left to right: each reading gives a value and the words after it, or the
 -- reason why the first word that does not fit does not.
-use Rattle.std.specs.Prelude.{◌≡◌, ℕ, zero, suc, ◌+◌, Bool, true, ◌&&◌, not, ◌==◌, nat_le, nat_lt, if◌then◌else◌, List, [], ◌∷◌, length, position, take, drop, Option, Some, None, Result, Ok, Err}
+use Rattle.std.specs.Prelude.{◌≡◌, ℕ, zero, suc, ◌+◌, Bool, true, ◌&&◌, ◌==◌, nat_le, nat_lt, if◌then◌else◌, List, [], ◌∷◌, length, position, take, drop, Option, Some, None, Result, Ok, Err}
 use Rattle.tcs_terms.specs.declared.ids.TxId.{TxId}
 use Rattle.tcs_terms.specs.declared.limits.TheConstants.{MAX_SEQUENCE}
 use Rattle.tcs_terms.specs.declared.words.Reason.{Reason}

@@ -21,7 +21,8 @@ mod word_readers;
 
 pub use faults::LineFault;
 pub use laws::{
-    one_schedule, what_is_printed_is_read, what_is_read_is_printed, what_is_refused_begins_no_schedule,
+    every_line_is_one, one_schedule, what_is_printed_is_read, what_is_read_begins_a_schedule,
+    what_is_read_is_printed, what_is_refused_begins_no_schedule,
 };
 pub use lines::{Got, Lines, LinesStop};
 pub use places::Place;

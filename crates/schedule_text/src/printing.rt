@@ -1,9 +1,7 @@
 //! The printers of a schedule: each appends lines to a buffer.
-ghost use Rattle.std.specs.Prelude.{◌≡◌, ◌≤◌, ◌++◌, ◌∷◌, [], length, codes, decimal, map, OnOk, OnErr, IsTrue};
+ghost use Rattle.std.specs.Prelude.{◌≡◌, ◌≤◌, ◌++◌, ◌∷◌, [], length, codes, decimal, map, OnOk, OnErr};
 ghost use Rattle.std.specs.List.{flat_map};
 ghost use Rattle.tcs_terms.specs.declared.limits.TheConstants.{MAX_NODES};
-ghost use Rattle.tcs_terms.specs.Setups.{Deployment};
-ghost use Rattle.tcs_terms.specs.Events.{event_fits};
 ghost use Rattle.tcs_terms.specs.PayloadText.{payload_text};
 ghost use Rattle.schedule_text.specs.Text.{rule_text, spaced_number, numbers_text, txn_text, version_line, certifier_line, shards_line, node_line, node_lines, config_line, first_lines, setup_lines, call_line, event_line, with_feed, Keeps};
 
@@ -241,9 +239,8 @@ fn put_event(out: &mut Vec<u8>, event: &Event) -> Result<(), OutOfMemory>
     }
 }
 
-/// Appends the line of an event that fits some setup. After want of memory the buffer begins with what it held.
+/// Appends the line of an event that fits some setup; another may have an empty one. After want of memory the buffer begins with what it held.
 pub fn print_event(event: &Event, out: &mut Vec<u8>) -> Result<(), OutOfMemory>
-    requires fits { (d : Deployment) × IsTrue (event_fits d event.now) }
     ensures ok { OnOk result (out.new.items ≡ out.old.items ++ with_feed (event_line event.now)) }
     ensures err { OnErr result (Keeps out.old.items out.new.items) }
 {
