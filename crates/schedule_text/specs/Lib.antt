@@ -1,2 +1,10 @@
 pub mod Buffer
+pub mod Cursor
+pub mod Events
+pub mod Header
 pub mod Lines
+pub mod Schedules
+pub mod Scripts
+pub mod Text
+pub mod Whole
+pub mod Words

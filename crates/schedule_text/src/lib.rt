@@ -1,9 +1,31 @@
 //! The text of a schedule: its lines.
 #![tactic(auto)]
 
+mod cursor;
+mod event_lines;
+mod faults;
+mod header;
+mod laws;
 pub mod limits;
 mod lines;
+mod node_lists;
+mod places;
+mod printing;
+mod reader;
+mod script;
 #[cfg(test)]
 mod tests;
+mod transactions;
+mod verbs;
+mod word_readers;
 
+pub use faults::LineFault;
+pub use laws::{
+    every_line_is_one, one_schedule, what_is_printed_is_read, what_is_read_begins_a_schedule,
+    what_is_read_is_printed, what_is_refused_begins_no_schedule,
+};
 pub use lines::{Got, Lines, LinesStop};
+pub use places::Place;
+pub use printing::{print_event, print_setup};
+pub use reader::{LineItem, LineReader};
+pub use script::{ScriptForm, ScriptItem, ScriptReader};

@@ -1,0 +1,45 @@
+//! The laws of the text of a schedule: what is printed is read as it was, and what is read is what would be printed.
+ghost use Rattle.std.specs.Prelude.{◌≡◌, ℕ, List, ◌∷◌, ◌++◌, length, Ok, Err};
+ghost use Rattle.std.specs.List.{AllByRecursion};
+ghost use Rattle.tcs_terms.specs.declared.inputs.Event.{Event};
+ghost use Rattle.tcs_terms.specs.declared.words.Reason.{Reason};
+ghost use Rattle.tcs_terms.specs.Setups.{Deployment};
+ghost use Rattle.schedule_text.specs.declared.lines.Got.TheVariants.{Whole};
+ghost use Rattle.schedule_text.specs.declared.places.Place.TheVariants.{Events, Ended};
+ghost use Rattle.schedule_text.specs.declared.reader.LineItem.{LineItem};
+ghost use Rattle.schedule_text.specs.Lines.{IsLine};
+ghost use Rattle.schedule_text.specs.Text.{schedule_lines};
+ghost use Rattle.schedule_text.specs.Schedules.{Progress, at_start, line_reading};
+ghost use Rattle.schedule_text.specs.Whole.{IsSchedule, IsRead, Begins, reads, schedule_items, at_end};
+
+/// The lines of a schedule are read as its setup and its events, in order.
+pub fn what_is_printed_is_read()
+    ensures { (d : Deployment) (es : List Event) → IsSchedule d es → reads at_start (schedule_lines d es) ≡ Ok (schedule_items d es, at_end d (length es)) }
+{}
+
+/// Lines that are read to the end are those of a schedule, with the setup and the events that were read.
+pub fn what_is_read_is_printed()
+    ensures { (lines : List (List ℕ)) (is : List LineItem) (p : Progress) → reads at_start lines ≡ Ok (is, p) → p.head.place ≡ Ended → IsRead p.head.setup p.count lines is }
+{}
+
+/// No schedule goes on with a line that is refused: where lines are read and the next one is not, no schedule begins
+/// with these lines and that one.
+pub fn what_is_refused_begins_no_schedule()
+    ensures { (lines : List (List ℕ)) (is : List LineItem) (p : Progress) (line : List ℕ) (reason : Reason) (d : Deployment) (es : List Event) (more : List (List ℕ))
+        → reads at_start lines ≡ Ok (is, p) → line_reading p Whole line ≡ Err reason → IsSchedule d es → schedule_lines d es ≡ lines ++ line ∷ more → ⊥ }
+{}
+
+/// No two schedules have the same lines.
+pub fn one_schedule()
+    ensures { (d e : Deployment) (es fs : List Event) → IsSchedule d es → IsSchedule e fs → schedule_lines d es ≡ schedule_lines e fs → (d ≡ e) × (es ≡ fs) }
+{}
+
+/// Lines that are read past the line `events`, but not to the end, begin a schedule.
+pub fn what_is_read_begins_a_schedule()
+    ensures { (lines : List (List ℕ)) (is : List LineItem) (p : Progress) → reads at_start lines ≡ Ok (is, p) → p.head.place ≡ Events → Begins p.head.setup lines }
+{}
+
+/// No line of a schedule has a line feed, and none is too long for a line.
+pub fn every_line_is_one()
+    ensures { (d : Deployment) (es : List Event) → IsSchedule d es → AllByRecursion IsLine (schedule_lines d es) }
+{}
