@@ -1,12 +1,11 @@
 -- What an answer says, by what reading gives.
-use Rattle.std.proofs.Common.{◌≡◌, ℕ, List, Option, Some, None, Result, Ok, Err, refl, sym, ap, subst, ◌∙◌}
-use Rattle.std.specs.Option.{option_map}
+use Rattle.std.proofs.Common.{◌≡◌, ℕ, List, Option, Some, None, Result, Ok, Err, refl}
 use Rattle.std.specs.Prelude.{IfOk}
 use Rattle.trace_text.specs.declared.items.TraceItem.{TraceItem}
 use Rattle.trace_text.specs.declared.items.TraceFault.{TraceFault}
 use Rattle.trace_text.specs.declared.items.TraceFault.TheVariants.{Bad, OutOfMemory}
-use Rattle.trace_text.specs.Lines.{Line, Standing, IsStanding, MayStand, line_text, after, item_of}
-use Rattle.trace_text.specs.Readings.{line_in, behind, Takes, Answers, Accepts, IsMemoryOr}
+use Rattle.trace_text.specs.Lines.{Line, Standing, IsStanding, MayStand, line_text, item_of}
+use Rattle.trace_text.specs.Readings.{line_in, Takes, Answers, Accepts, IsMemoryOr}
 use Rattle.trace_text.proofs.Steps.{some_is}
 use Rattle.trace_text.proofs.LineWords.{line_takes, line_again}
 

@@ -1,13 +1,13 @@
 -- Decisions: what is read is spelled so, and what is spelled so is read.
-use Rattle.std.proofs.Common.{◌≡◌, ◌⊎◌, inl, inr, ℕ, ◌^◌, ◌<◌, ◌≤◌, true, ◌&&◌, List, ◌∷◌, ◌++◌, Option, Some, None, refl, sym, ap, subst, ◌∙◌, append_assoc, arith}
-use Rattle.std.specs.Prelude.{nat_le, codes, decimal, IsTrue}
+use Rattle.std.proofs.Common.{◌≡◌, inl, inr, ℕ, ◌^◌, ◌<◌, List, ◌∷◌, ◌++◌, Some, refl, sym, ap, subst, ◌∙◌, append_assoc, arith}
+use Rattle.std.specs.Prelude.{codes, decimal}
 use Rattle.tcs_terms.specs.declared.votes.Cause.{Cause}
 use Rattle.tcs_terms.specs.declared.votes.Cause.TheVariants as causes
 use Rattle.tcs_terms.specs.declared.votes.Decision.{Decision}
 use Rattle.tcs_terms.specs.declared.votes.Decision.TheVariants as decisions
 use Rattle.trace_text.specs.Texts.{txn_text, cause_text, decision_text}
 use Rattle.trace_text.specs.Lines.{IsCause, IsDecision}
-use Rattle.trace_text.specs.Words.{◌>>=◌, cut, is_word, number_within, txn_in}
+use Rattle.trace_text.specs.Words.{cut, is_word, number_within, txn_in}
 use Rattle.trace_text.specs.Readings.{clash_in, cause_in, abort_in, decision_in}
 use Rattle.trace_text.proofs.Steps.{bind_some, some_is, kept, either}
 use Rattle.trace_text.proofs.Cuts.{cut_takes, cut_again}

@@ -1,11 +1,11 @@
 -- No line of a trace has a line feed in it.
-use Rattle.std.proofs.Common.{◌≡◌, ℕ, zero, suc, ◌+◌, ◌^◌, ◌<◌, ◌≤◌, Bool, true, false, not, ◌||◌, ◌&&◌, cond, List, [], ◌∷◌, ◌++◌, All, refl, sym, ap, ◌∙◌, arith}
-use Rattle.std.specs.Prelude.{◌==◌, nat_le, slice_index, codes, decimal}
+use Rattle.std.proofs.Common.{◌≡◌, ℕ, suc, ◌^◌, ◌<◌, true, false, not, List, [], ◌∷◌, ◌++◌, All, refl, ◌∙◌, arith}
+use Rattle.std.specs.Prelude.{◌==◌, slice_index, codes, decimal}
 use Rattle.std.specs.List.{list_all, list_any, flat_map}
 use Rattle.std.proofs.lemmas.Bool.Decides.{nat_tests}
 use Rattle.std.proofs.lemmas.List.Folds.{list_all-append}
 use Rattle.hex.specs.Hex.{IsBytes, encode_lower}
-use Rattle.tcs_terms.specs.declared.limits.TheConstants.{MAX_NODES, MAX_SEQUENCE, MAX_SHARDS}
+use Rattle.tcs_terms.specs.declared.limits.TheConstants.{MAX_SHARDS}
 use Rattle.tcs_terms.specs.declared.ids.TxId.{TxId}
 use Rattle.tcs_terms.specs.declared.inputs.Handled.TheVariants as handled
 use Rattle.tcs_terms.specs.declared.inputs.Result1.{Result1}
@@ -20,7 +20,7 @@ use Rattle.tcs_terms.specs.declared.votes.Cause.TheVariants as causes
 use Rattle.tcs_terms.specs.declared.votes.Decision.{Decision}
 use Rattle.tcs_terms.specs.declared.votes.Decision.TheVariants as decisions
 use Rattle.tcs_terms.specs.Messages.{is_txn}
-use Rattle.tcs_terms.specs.Objects.{IsName, IsValue}
+use Rattle.tcs_terms.specs.Objects.{IsValue}
 use Rattle.tcs_terms.specs.Payloads.{Accesses, IsReadPart, IsRangePart, IsWritePart, IsPayload}
 use Rattle.tcs_terms.specs.PayloadText.{value_text, read_text, range_text, write_text, payload_text}
 use Rattle.tcs_terms.specs.PayloadWords.{is_lower_digit}

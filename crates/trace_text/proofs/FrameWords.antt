@@ -1,13 +1,13 @@
 -- Frames behind the names of their kinds: what is read is spelled so, and what is spelled so is read.
-use Rattle.std.proofs.Common.{◌≡◌, ℕ, ◌<◌, Bool, true, false, not, ◌&&◌, cond, List, ◌∷◌, ◌++◌, Option, Some, None, Result, Ok, Err, refl, sym, ap, subst, ◌∙◌, arith}
+use Rattle.std.proofs.Common.{◌≡◌, ℕ, ◌<◌, Bool, true, false, not, ◌&&◌, cond, List, ◌∷◌, ◌++◌, Some, Result, Ok, Err, refl, sym, ap, subst, ◌∙◌, arith}
 use Rattle.std.specs.Prelude.{◌==◌, nat_le, slice_index, codes}
 use Rattle.std.specs.List.{list_all}
 use Rattle.std.proofs.lemmas.Bool.Decides.{nat_tests}
 use Rattle.std.specs.Result.{result_ok}
 use Rattle.std.specs.Cmp.Lexicographic.{bytes_decides}
-use Rattle.hex.specs.Hex.{IsBytes, encode_lower}
+use Rattle.hex.specs.Hex.{encode_lower}
 use Rattle.tcs_terms.specs.declared.messages.Message.{Message}
-use Rattle.tcs_terms.proofs.BoolLaws.{both, left_of, right_of}
+use Rattle.tcs_terms.proofs.BoolLaws.{left_of, right_of}
 use Rattle.wire_frame.specs.declared.faults.Fault.{Fault}
 use Rattle.wire_frame.specs.Spelling.{kind_of, spell}
 use Rattle.wire_frame.specs.Frames.{read_frame}
@@ -15,9 +15,9 @@ use Rattle.wire_frame.proofs.FrameLaws.{frame_takes, frame_again}
 use Rattle.trace_text.specs.Texts.{kind_text}
 use Rattle.trace_text.specs.Versions.{message_fits}
 use Rattle.trace_text.specs.Lines.{IsFrame}
-use Rattle.trace_text.specs.Words.{◌>>=◌, cut, is_word, bytes_in}
+use Rattle.trace_text.specs.Words.{cut, is_word, bytes_in}
 use Rattle.trace_text.specs.Readings.{frame_in}
-use Rattle.trace_text.proofs.Steps.{bind_some, some_is, kept}
+use Rattle.trace_text.proofs.Steps.{bind_some, kept}
 use Rattle.trace_text.proofs.Cuts.{lacks, cut_takes, cut_again}
 use Rattle.trace_text.proofs.PlainWords.{word_is, weaker}
 use Rattle.trace_text.proofs.HexWords.{bytes_takes, bytes_again}

@@ -1,21 +1,18 @@
 -- Lines: what is read is spelled so and may stand there, and what may stand there is read from its text.
-use Rattle.std.proofs.Common.{◌≡◌, ◌⊎◌, inl, inr, ℕ, ◌+◌, ◌^◌, ◌<◌, ◌≤◌, Bool, true, false, ◌&&◌, cond, List, ◌∷◌, ◌++◌, Option, Some, None, refl, sym, ap, subst, ◌∙◌, append_assoc, arith}
-use Rattle.std.specs.Prelude.{◌==◌, nat_le, slice_index, codes, decimal}
-use Rattle.std.specs.List.{list_all}
+use Rattle.std.proofs.Common.{◌≡◌, inl, inr, ℕ, ◌+◌, ◌^◌, ◌<◌, ◌≤◌, Bool, true, ◌&&◌, List, ◌∷◌, ◌++◌, Some, refl, sym, ap, subst, ◌∙◌, append_assoc, arith}
+use Rattle.std.specs.Prelude.{◌==◌, nat_le, codes, decimal}
 use Rattle.std.proofs.lemmas.Bool.{eqb-true, eq-eqb}
 use Rattle.std.proofs.lemmas.Bool.Decides.{nat_tests}
-use Rattle.hex.specs.Hex.{encode_lower}
 use Rattle.tcs_terms.specs.declared.limits.TheConstants.{MAX_NODES, MAX_SHARDS}
 use Rattle.tcs_terms.specs.declared.ids.TxId.{TxId}
 use Rattle.tcs_terms.specs.declared.inputs.Note.{Note}
 use Rattle.tcs_terms.specs.declared.inputs.Result1.{Result1}
 use Rattle.tcs_terms.specs.declared.setups.Rule.{Rule}
-use Rattle.tcs_terms.specs.Messages.{is_txn}
 use Rattle.tcs_terms.specs.PayloadWords.{number_in}
 use Rattle.tcs_terms.proofs.BoolLaws.{both, left_of, right_of}
-use Rattle.trace_text.specs.Texts.{rule_text, result_text, note_text, kind_text, order_text}
-use Rattle.trace_text.specs.Lines.{Line, HeadLine, EventLine, NoteLine, MessageLine, OrderLine, EndLine, line_text, Standing, IsStanding, MayStand, IsResult, IsNote, IsFrame, is_start, is_within, is_event, has_event, is_ordered}
-use Rattle.trace_text.specs.Words.{◌>>=◌, cut, is_word, number_within, next_number, rule_in}
+use Rattle.trace_text.specs.Texts.{rule_text, result_text, note_text, order_text}
+use Rattle.trace_text.specs.Lines.{Line, HeadLine, EventLine, NoteLine, MessageLine, OrderLine, EndLine, line_text, Standing, IsStanding, MayStand, is_start, is_within, is_event, has_event, is_ordered}
+use Rattle.trace_text.specs.Words.{cut, is_word, number_within, next_number, rule_in}
 use Rattle.trace_text.specs.Readings.{Ends, result_in, note_in, frame_in, head_of, event_of, note_of, ends_of, message_of, order_in, order_of, end_of, line_of, line_in}
 use Rattle.trace_text.proofs.Steps.{bind_some, some_is, kept, either}
 use Rattle.trace_text.proofs.Cuts.{lacks, cut_takes, cut_again}

@@ -1,14 +1,11 @@
 -- Notes: what is read is spelled so, and what is spelled so is read.
-use Rattle.std.proofs.Common.{◌≡◌, ◌⊎◌, inl, inr, ℕ, ◌+◌, ◌-◌, ◌^◌, ◌<◌, ◌≤◌, true, ◌&&◌, cond, List, ◌∷◌, ◌++◌, length, Option, Some, None, Result, Ok, Err, refl, sym, ap, subst, ◌∙◌, append_assoc, arith}
-use Rattle.std.specs.Prelude.{nat_le, codes, decimal}
+use Rattle.std.proofs.Common.{◌≡◌, inl, inr, ℕ, ◌^◌, ◌<◌, true, cond, List, ◌∷◌, ◌++◌, length, Some, None, Result, Ok, Err, refl, sym, ap, subst, ◌∙◌, append_assoc, arith}
+use Rattle.std.specs.Prelude.{codes, decimal}
 use Rattle.std.specs.Result.{result_ok}
 use Rattle.tcs_terms.specs.declared.ids.TxId.{TxId}
 use Rattle.tcs_terms.specs.declared.inputs.Note.{Note}
 use Rattle.tcs_terms.specs.declared.inputs.Note.TheVariants as notes
 use Rattle.tcs_terms.specs.declared.votes.Decision.{Decision}
-use Rattle.tcs_terms.specs.declared.words.Reason.{Reason}
-use Rattle.tcs_terms.specs.Messages.{is_txn}
-use Rattle.tcs_terms.specs.Objects.{IsName, IsValue}
 use Rattle.tcs_terms.specs.Payloads.{Accesses, IsPayload}
 use Rattle.tcs_terms.specs.PayloadText.{payload_text, value_text}
 use Rattle.tcs_terms.specs.PayloadWords.{Misfit, FitsVersion, number_in, value_in, payload_at, numbered, reading}
@@ -18,7 +15,7 @@ use Rattle.tcs_terms.proofs.PayloadSpelling.{text_of_words, text_read_again}
 use Rattle.tcs_terms.proofs.ValueLaws.{value_in_takes, value_in_again}
 use Rattle.trace_text.specs.Texts.{txn_text, decision_text, note_text}
 use Rattle.trace_text.specs.Lines.{IsNote, Standing, is_event}
-use Rattle.trace_text.specs.Words.{◌>>=◌, cut, is_word, txn_in, name_in}
+use Rattle.trace_text.specs.Words.{cut, is_word, txn_in, name_in}
 use Rattle.trace_text.specs.Readings.{begin_in, take_in, read_in, decide_in, decision_in, note_in, note_of, line_of}
 use Rattle.trace_text.proofs.Steps.{bind_some, some_is, either}
 use Rattle.trace_text.proofs.Cuts.{lacks, cut_takes, cut_again}

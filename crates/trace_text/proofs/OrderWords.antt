@@ -1,7 +1,7 @@
 -- Orders: what is read is spelled so, and what is spelled so is read.
-use Rattle.std.proofs.Common.{◌≡◌, ◌⊎◌, inl, inr, ℕ, ◌^◌, ◌<◌, Bool, true, false, not, ◌&&◌, cond, List, [], ◌∷◌, ◌++◌, map, Option, Some, None, refl, sym, ap, subst, ◌∙◌, append_assoc, arith}
-use Rattle.std.specs.Prelude.{◌==◌, codes, decimal}
-use Rattle.std.specs.List.{list_all, flat_map, join_with_byte, onto_first}
+use Rattle.std.proofs.Common.{◌≡◌, inl, inr, ℕ, Bool, true, false, cond, List, [], ◌∷◌, ◌++◌, map, Some, refl, sym, ap, subst, ◌∙◌, arith}
+use Rattle.std.specs.Prelude.{◌==◌, codes}
+use Rattle.std.specs.List.{list_all, join_with_byte, onto_first}
 use Rattle.std.proofs.lemmas.List.{append-nil}
 use Rattle.std.proofs.lemmas.List.Splits.{join_with_byte-slice_split}
 use Rattle.tcs_terms.specs.declared.ids.TxId.{TxId}
@@ -9,10 +9,9 @@ use Rattle.tcs_terms.specs.Messages.{is_txn}
 use Rattle.tcs_terms.specs.Words.{words_of}
 use Rattle.tcs_terms.proofs.BoolLaws.{both, left_of, right_of}
 use Rattle.trace_text.specs.Texts.{txn_text, order_text}
-use Rattle.trace_text.specs.Words.{◌>>=◌, cut, is_word, txn_in, each_txn}
+use Rattle.trace_text.specs.Words.{cut, is_word, txn_in, each_txn}
 use Rattle.trace_text.specs.Readings.{order_in}
 use Rattle.trace_text.proofs.Steps.{bind_some, some_is, either}
-use Rattle.trace_text.proofs.Cuts.{lacks}
 use Rattle.trace_text.proofs.WordLists.{words_of_two, words_of_one}
 use Rattle.trace_text.proofs.PlainWords.{word_is, txn_takes, txn_again, txn_lacks}
 

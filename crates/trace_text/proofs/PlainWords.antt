@@ -1,5 +1,5 @@
 -- Numbers, transactions, rules and names: what is read is spelled so, and what is spelled so is read.
-use Rattle.std.proofs.Common.{◌≡◌, ◌⊎◌, inl, inr, ℕ, ◌+◌, ◌^◌, ◌<◌, ◌≤◌, Bool, true, false, not, ◌&&◌, ◌||◌, cond, List, [], ◌∷◌, ◌++◌, length, Option, Some, None, Result, Ok, Err, refl, sym, ap, subst, ◌∙◌, append_assoc, arith}
+use Rattle.std.proofs.Common.{◌≡◌, inl, inr, ℕ, ◌+◌, ◌^◌, ◌<◌, ◌≤◌, Bool, true, false, not, ◌&&◌, ◌||◌, cond, List, [], ◌∷◌, ◌++◌, length, Option, Some, None, Ok, refl, sym, ap, subst, ◌∙◌, append_assoc, arith}
 use Rattle.std.specs.Prelude.{◌==◌, nat_le, codes, decimal, is_none}
 use Rattle.std.specs.List.{list_all}
 use Rattle.std.specs.Char.{is_ascii_digit}
@@ -17,13 +17,13 @@ use Rattle.tcs_terms.specs.Objects.{is_name_byte, IsName}
 use Rattle.tcs_terms.specs.ObjectFaults.{name_fault}
 use Rattle.tcs_terms.specs.Places.{is_node}
 use Rattle.tcs_terms.specs.Messages.{is_txn}
-use Rattle.tcs_terms.specs.PayloadWords.{Misfit, misfit, is_printable, number_in, number_or, number_word}
+use Rattle.tcs_terms.specs.PayloadWords.{misfit, is_printable, number_in, number_or, number_word}
 use Rattle.tcs_terms.proofs.BoolLaws.{both, left_of, right_of}
 use Rattle.tcs_terms.proofs.NameLaws.{is_name_without_fault, no_fault_of_a_name}
 use Rattle.tcs_terms.proofs.NumberLaws.{numerals}
 use Rattle.tcs_terms.proofs.WordReadings.{ok_is, number_takes, number_again}
 use Rattle.trace_text.specs.Texts.{rule_text, txn_text}
-use Rattle.trace_text.specs.Words.{◌>>=◌, cut, is_word, number_within, next_number, txn_in, rule_in, name_in}
+use Rattle.trace_text.specs.Words.{cut, is_word, number_within, next_number, txn_in, rule_in, name_in}
 use Rattle.trace_text.proofs.Steps.{bind_some, some_is, kept, either}
 use Rattle.trace_text.proofs.Cuts.{lacks, cut_takes, cut_again}
 

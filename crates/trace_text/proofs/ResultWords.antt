@@ -1,15 +1,14 @@
 -- Results and decisions: what is read is spelled so, and what is spelled so is read.
-use Rattle.std.proofs.Common.{◌≡◌, ◌⊎◌, inl, inr, ℕ, ◌^◌, ◌<◌, ◌≤◌, true, ◌&&◌, List, ◌∷◌, ◌++◌, Option, Some, None, refl, sym, ap, subst, ◌∙◌, arith}
+use Rattle.std.proofs.Common.{◌≡◌, inl, inr, ℕ, ◌^◌, ◌<◌, true, ◌&&◌, List, ◌∷◌, ◌++◌, Option, Some, refl, ap, subst, ◌∙◌, arith}
 use Rattle.std.specs.Prelude.{nat_le, codes, decimal}
 use Rattle.std.proofs.lemmas.Bool.Decides.{nat_tests}
-use Rattle.tcs_terms.specs.declared.inputs.Handled.{Handled}
 use Rattle.tcs_terms.specs.declared.inputs.Handled.TheVariants as handled
 use Rattle.tcs_terms.specs.declared.inputs.Result1.{Result1}
 use Rattle.tcs_terms.specs.declared.inputs.Result1.TheVariants as results
 use Rattle.tcs_terms.proofs.BoolLaws.{both, right_of}
 use Rattle.trace_text.specs.Texts.{result_text}
 use Rattle.trace_text.specs.Lines.{IsResult}
-use Rattle.trace_text.specs.Words.{◌>>=◌, cut, is_word, number_within}
+use Rattle.trace_text.specs.Words.{cut, is_word, number_within}
 use Rattle.trace_text.specs.Readings.{MAX_MARK, marked_in, result_in}
 use Rattle.trace_text.proofs.Steps.{bind_some, some_is, kept, either}
 use Rattle.trace_text.proofs.Cuts.{cut_takes, cut_again}

@@ -1,20 +1,18 @@
 -- A trace is read line by line.
-use Rattle.std.proofs.Common.{◌≡◌, ℕ, suc, ◌+◌, ◌^◌, ◌<◌, ◌≤◌, Bool, true, false, ◌&&◌, ◌||◌, List, [], ◌∷◌, ◌++◌, length, map, fold, Option, Some, None, refl, sym, ap, subst, ◌∙◌, append_assoc, arith}
-use Rattle.std.specs.Prelude.{◌==◌, nat_le, IsTrue}
-use Rattle.std.specs.List.{list_all, flat_map, AllByRecursion}
+use Rattle.std.proofs.Common.{◌≡◌, ℕ, suc, ◌+◌, ◌^◌, ◌<◌, true, ◌&&◌, ◌||◌, List, [], ◌∷◌, ◌++◌, length, map, Some, refl, sym, ap, subst, ◌∙◌, append_assoc, arith}
+use Rattle.std.specs.Prelude.{◌==◌, nat_le}
+use Rattle.std.specs.List.{flat_map, AllByRecursion}
 use Rattle.std.proofs.lemmas.Bool.Decides.{nat_tests}
 use Rattle.std.proofs.lemmas.List.{map-append}
 use Rattle.std.proofs.lemmas.Grind.{flat_map-append}
 use Rattle.tcs_terms.specs.declared.limits.TheConstants.{MAX_SHARDS}
 use Rattle.tcs_terms.specs.declared.inputs.Note.{Note}
-use Rattle.tcs_terms.proofs.BoolLaws.{left_of, right_of}
+use Rattle.tcs_terms.proofs.BoolLaws.{right_of}
 use Rattle.trace_text.specs.declared.items.TraceItem.{TraceItem}
 use Rattle.trace_text.specs.declared.items.TraceItem.TheVariants as items
 use Rattle.trace_text.specs.declared.reader.Stage.{Stage}
-use Rattle.trace_text.specs.declared.reader.Stage.TheVariants.{Begun, Event, Messages, Ordered, Ended}
-use Rattle.trace_text.specs.Lines.{Line, HeadLine, EventLine, NoteLine, MessageLine, OrderLine, EndLine, line_text, Standing, IsStanding, MayStand, IsNote, is_within, is_event, has_event, is_ordered, printed, at_start, after, item_of}
-use Rattle.trace_text.specs.Words.{◌>>=◌}
-use Rattle.trace_text.specs.Readings.{line_in}
+use Rattle.trace_text.specs.declared.reader.Stage.TheVariants.{Event, Messages, Ended}
+use Rattle.trace_text.specs.Lines.{Line, HeadLine, EventLine, NoteLine, MessageLine, OrderLine, EndLine, line_text, Standing, IsStanding, MayStand, IsNote, is_within, is_event, has_event, printed, at_start, after, item_of}
 use Rattle.trace_text.specs.Traces.{Sending, Happening, Trace, sends_of, message_lines, event_lines, events_lines, trace_lines, event_items, trace_items, IsSending, IsHappening, IsTrace, read_lines, at_end}
 use Rattle.trace_text.proofs.LineWords.{line_again}
 

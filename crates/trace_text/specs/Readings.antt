@@ -1,5 +1,5 @@
 -- How a line is read: which line it is, if it is one that may stand there.
-use Rattle.std.specs.Prelude.{◌≡◌, ℕ, ◌^◌, Bool, ◌&&◌, ◌==◌, if◌then◌else◌, List, [], codes, Option, Some, None, Result, Ok, Err}
+use Rattle.std.specs.Prelude.{◌≡◌, ℕ, ◌&&◌, ◌==◌, if◌then◌else◌, List, [], codes, Option, Some, None, Result, Ok, Err}
 use Rattle.std.specs.Option.{option_map}
 use Rattle.std.specs.Result.{result_ok}
 use Rattle.tcs_terms.specs.declared.limits.TheConstants.{MAX_NODES, MAX_SHARDS}
@@ -23,7 +23,7 @@ use Rattle.trace_text.specs.declared.items.TraceFault.TheVariants.{Bad, OutOfMem
 use Rattle.trace_text.specs.Texts.{kind_text}
 use Rattle.trace_text.specs.Versions.{message_fits}
 use Rattle.trace_text.specs.Lines.{Line, HeadLine, EventLine, NoteLine, MessageLine, OrderLine, EndLine, line_text, Standing, MayStand, is_start, is_within, is_event, has_event, is_ordered, after, item_of}
-use Rattle.trace_text.specs.Words.{◌>>=◌, cut, first_word, is_word, number_within, next_number, txn_in, rule_in, name_in, bytes_in, each_txn}
+use Rattle.trace_text.specs.Words.{◌>>=◌, first_word, is_word, number_within, next_number, txn_in, rule_in, name_in, bytes_in, each_txn}
 
 -- ---- results
 

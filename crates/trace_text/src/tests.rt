@@ -61,9 +61,9 @@ fn worked_bad_lines(rt: HostRuntime) -> Result<(), Fail> {
 /// In place of the line of this number, from 1, another one is refused, and then the line itself is taken.
 fn refuses(rt: &impl Abort, alloc: Global, text: &str, number: usize, other: &str) {
     let mut reader = TraceReader::new();
-    let mut count = 0;
+    let mut count: usize = 0;
     for line in text.lines() {
-        count += 1;
+        count = count.saturating_add(1);
         if count == number {
             let answer = reader.take(alloc, other.as_bytes());
             assert!(rt; matches!(answer, Err(TraceFault::Bad)), "{other}");

@@ -1,4 +1,4 @@
-use Rattle.std.proofs.Common.{◌≡◌, ℕ, List, Option, Some, None, Result, Ok, Err, refl, sym}
+use Rattle.std.proofs.Common.{◌≡◌, ℕ, List, Some, None, Result, Ok, Err, refl, sym}
 use Rattle.std.specs.Result.{result_ok}
 use Rattle.tcs_terms.specs.declared.messages.Message.{Message}
 use Rattle.wire_frame.specs.declared.faults.FrameReason.{FrameReason}
