@@ -18,11 +18,12 @@ use Rattle.tcs_terms.specs.Setups.{Deployment, has_node, is_node_of}
 use Rattle.tcs_terms.proofs.BoolLaws.{both, left_of, right_of}
 use Rattle.tcs_terms.proofs.PayloadReadings.{payload_takes}
 use Rattle.tcs_terms.proofs.WordReadings.{name_takes}
+use Rattle.tcs_terms.proofs.RuleReadings.{named}
 use Rattle.schedule_text.specs.declared.verbs.CallVerb.{CallVerb}
 use Rattle.schedule_text.specs.declared.verbs.CallVerb.TheVariants as calls
 use Rattle.schedule_text.specs.declared.verbs.Verb.{Verb}
 use Rattle.schedule_text.specs.declared.verbs.Verb.TheVariants as verbs
-use Rattle.schedule_text.specs.Text.{txn_text}
+use Rattle.tcs_terms.specs.Texts.{txn_text}
 use Rattle.schedule_text.specs.Whole.{IsInput, IsEvent}
 use Rattle.schedule_text.specs.Words.{is_for, end_at, between_at, caller_at, name_at, payload_words_at, txn_at, nodes_at}
 use Rattle.schedule_text.specs.Events.{call_verb, verb_or, verb_of, alone_at, certify_at, take_at, move_at, read_at, ask_at, input_at, call_at, delivery_at, stop_at, event_at}
@@ -50,10 +51,6 @@ verb_word verbs.Stop = codes "stop"
 
 pub some_is : {A : Type 0} (x y : A) → Some x ≡ Some y → x ≡ y
 some_is x y e = cc
-
-pub named : {A : Type 0} (b : Bool) (w word : List ℕ) (x y : A) (more : Option A) → same_name w word ≡ b → cond b (Some x) more ≡ Some y → ((w ≡ word) × (x ≡ y)) ⊎ (more ≡ Some y)
-named true w word x y more e h = inl ((bytes_decides w word).0 e, some_is x y h)
-named false w word x y more e h = inr h
 
 is_call : (w : List ℕ) (c d : CallVerb) → (w ≡ call_word c) × (c ≡ d) → w ≡ call_word d
 is_call w c d (e, same) = e ∙ ap call_word same

@@ -17,10 +17,11 @@ use Rattle.tcs_terms.proofs.PlaceLaws.{is_membership_without_fault}
 use Rattle.tcs_terms.proofs.SetupLaws.{is_deployment_without_fault}
 use Rattle.schedule_text.specs.declared.places.Place.{Place}
 use Rattle.schedule_text.specs.declared.places.Place.TheVariants as places
-use Rattle.schedule_text.specs.Text.{rule_text, version_line, certifier_line, shards_line, node_line, node_lines, config_line, first_lines, setup_lines}
+use Rattle.tcs_terms.specs.Texts.{rule_text, rule_in}
+use Rattle.schedule_text.specs.Text.{version_line, certifier_line, shards_line, node_line, node_lines, config_line, first_lines, setup_lines}
 use Rattle.schedule_text.specs.Words.{fixed_at, end_at, number_at, between_at, node_of_at, nodes_at}
-use Rattle.schedule_text.specs.Header.{Head, rule_of, rule_or, rule_at, version_at, certifier_at, shards_at, next_at, node_at, shard_in_order_at, members_at, first_config_at, config_at, setup_or, begun_at, has_place_for, events_at, part_at, head_at}
-use Rattle.schedule_text.proofs.EventReadings.{named}
+use Rattle.schedule_text.specs.Header.{Head, rule_or, rule_at, version_at, certifier_at, shards_at, next_at, node_at, shard_in_order_at, members_at, first_config_at, config_at, setup_or, begun_at, has_place_for, events_at, part_at, head_at}
+use Rattle.tcs_terms.proofs.RuleReadings.{rule_named}
 use Rattle.schedule_text.proofs.EventSpellings.{small_nodes}
 use Rattle.schedule_text.proofs.LineWords.{words_of_version, words_of_certifier, words_of_shards, words_of_node, words_of_config}
 use Rattle.schedule_text.proofs.NodeReadings.{nodes_take}
@@ -83,26 +84,11 @@ version_takes d line x stands h =
     subst (HeadStep places.Version d line) (ok_is (None, record { place = places.Certifier; setup = record d { version = b.0.0 } }) x e.2)
     (record { lines = ap (λ (l : List ℕ). l ∷ []) (sym same); stands = stands; item = refl })
 
-rule_is : (w : List ℕ) (r s : Rule) → (w ≡ rule_text r) × (r ≡ s) → w ≡ rule_text s
-rule_is w r s (e, same) = e ∙ ap rule_text same
-
-rule_named : (w : List ℕ) (r : Rule) → rule_of w ≡ Some r → w ≡ rule_text r
-rule_named w r h = elim (named _ w (codes "serial") rules.Serial r _ refl h) [
-  | inl p ↦ rule_is w rules.Serial r p
-  | inr h ↦ elim (named _ w (codes "snapshot") rules.Snapshot r _ refl h) [
-    | inl p ↦ rule_is w rules.Snapshot r p
-    | inr h ↦ elim (named _ w (codes "commute") rules.Commute r None refl h) [
-      | inl p ↦ rule_is w rules.Commute r p
-      | inr h ↦ absurd cc
-    ]
-  ]
-]
-
 rule_takes : (words : List (List ℕ)) (x : Rule × List (List ℕ)) → rule_at words ≡ Ok x → words ≡ rule_text x.0 ∷ x.1
 unfolding rule_at
 rule_takes [] x h = absurd cc
-rule_takes (w ∷ ws) x h = go (rule_of w) refl h where
-  go : (o : Option Rule) → rule_of w ≡ o → rule_or o ws ≡ Ok x → w ∷ ws ≡ rule_text x.0 ∷ x.1
+rule_takes (w ∷ ws) x h = go (rule_in w) refl h where
+  go : (o : Option Rule) → rule_in w ≡ o → rule_or o ws ≡ Ok x → w ∷ ws ≡ rule_text x.0 ∷ x.1
   go (Some r) e k =
       subst (λ (y : Rule × List (List ℕ)). w ∷ ws ≡ rule_text y.0 ∷ y.1) (ok_is (r, ws) x k) (ap (λ (v : List ℕ). v ∷ ws) (rule_named w r e))
   go None e k = absurd cc

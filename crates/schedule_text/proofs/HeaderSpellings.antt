@@ -15,7 +15,8 @@ use Rattle.tcs_terms.proofs.BoolLaws.{left_of, right_of}
 use Rattle.tcs_terms.proofs.PlaceLaws.{no_fault_of_a_membership}
 use Rattle.tcs_terms.proofs.SetupLaws.{no_fault_of_a_deployment}
 use Rattle.schedule_text.specs.declared.places.Place.TheVariants as places
-use Rattle.schedule_text.specs.Text.{rule_text}
+use Rattle.tcs_terms.specs.Texts.{rule_text}
+use Rattle.tcs_terms.proofs.RuleReadings.{word_names}
 use Rattle.schedule_text.specs.Header.{rule_at, version_at, certifier_at, shards_at, next_at, node_at, shard_in_order_at, members_at, first_config_at, config_at, begun_at, has_place_for, events_at, part_at, head_at}
 use Rattle.schedule_text.proofs.EventReadings.{ascend_from_zero}
 use Rattle.schedule_text.proofs.NodeReadings.{nodes_again, small_node}
@@ -30,9 +31,7 @@ version_again only d n low high = rw (between_again 1 2 n [] (omega arith) low h
 
 rule_again : (r : Rule) (ws : List (List ℕ)) → rule_at (rule_text r ∷ ws) ≡ Ok (r, ws)
 unfolding rule_at
-rule_again rules.Serial ws = refl
-rule_again rules.Snapshot ws = refl
-rule_again rules.Commute ws = refl
+rule_again r ws = rw (word_names r) refl
 
 pub certifier_again : (only : Option ℕ) (d : Deployment) (r : Rule)
     → head_at only places.Certifier d (codes "certifier" ∷ rule_text r ∷ []) ≡ Ok (None, record { place = places.Shards; setup = record d { rule = r } })

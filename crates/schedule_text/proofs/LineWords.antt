@@ -13,7 +13,8 @@ use Rattle.tcs_terms.specs.Places.{Membership}
 use Rattle.tcs_terms.specs.Words.{words_of}
 use Rattle.tcs_terms.proofs.PayloadReadings.{payload_words}
 use Rattle.tcs_terms.proofs.PayloadSpelling.{words_of_payload}
-use Rattle.schedule_text.specs.Text.{rule_text, numbers_text, txn_text, version_line, certifier_line, shards_line, node_line, config_line, call_line, event_line}
+use Rattle.tcs_terms.specs.Texts.{rule_text, txn_text}
+use Rattle.schedule_text.specs.Text.{numbers_text, version_line, certifier_line, shards_line, node_line, config_line, call_line, event_line}
 use Rattle.schedule_text.proofs.Spaces.{Free, free_decimal, free_name, free_append, words_then, word_alone, words_of_numbers}
 
 -- a word, and one number

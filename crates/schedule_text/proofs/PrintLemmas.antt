@@ -3,16 +3,7 @@ use Rattle.std.proofs.Common.{◌≡◌, ℕ, ◌+◌, ◌<◌, List, [], ◌∷
 use Rattle.std.specs.List.{flat_map}
 use Rattle.std.proofs.lemmas.List.{append-nil, take_more, length-take-le}
 use Rattle.std.proofs.lemmas.List.Concat.{flat_map-append}
-use Rattle.schedule_text.specs.Text.{node_line, node_lines, with_feed, Keeps}
-
-keeps_on : (before between after text : List ℕ) → between ≡ before ++ text → Keeps between after → Keeps before after
-keeps_on before between after text e k =
-    record { more = text ++ k.more; whole = k.whole ∙ ap (λ (t : List ℕ). t ++ k.more) e ∙ append_assoc before text k.more }
-
--- a printer that stops in a loop keeps what was there before
-pub stops_keeping : {A E : Type 0} (r : Result A E) (before between after text : List ℕ) → between ≡ before ++ text → Keeps between after → OnErr r (Keeps before after)
-stops_keeping (Ok x) before between after text e k = tt
-stops_keeping (Err f) before between after text e k = keeps_on before between after text e k
+use Rattle.schedule_text.specs.Text.{node_line, node_lines, with_feed}
 
 pub node_lines_end : (first : ℕ) (ss : List ℕ) (s : ℕ) → node_lines first (ss ++ s ∷ []) ≡ node_lines first ss ++ node_line (first + length ss) s ∷ []
 node_lines_end first [] s = ap (λ n. node_line n s ∷ []) (omega arith)

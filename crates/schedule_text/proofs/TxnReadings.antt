@@ -12,7 +12,7 @@ use Rattle.tcs_terms.specs.PayloadWords.{is_numeral, is_printable, misfit, numbe
 use Rattle.tcs_terms.specs.Setups.{has_node}
 use Rattle.tcs_terms.proofs.BoolLaws.{left_of, right_of}
 use Rattle.tcs_terms.proofs.WordReadings.{number_takes, number_again}
-use Rattle.schedule_text.specs.Text.{txn_text}
+use Rattle.tcs_terms.specs.Texts.{txn_text}
 use Rattle.schedule_text.specs.Words.{txn_numbers, txn_parts, txn_in, txn_at}
 use Rattle.schedule_text.proofs.Steps.{bind_ok, ok_is, met, chosen}
 use Rattle.schedule_text.proofs.Spaces.{free_decimal, first_place, split_at_first}

@@ -42,21 +42,13 @@ version_at d words = do
   end ← end_at version.1
   goes_on places.Certifier (record d { version = version.0 })
 
--- the rule that a word names
-abbrev pub rule_of : List ℕ → Option Rule
-rule_of word =
-    if same_name word (codes "serial") then Some rules.Serial
-    else if same_name word (codes "snapshot") then Some rules.Snapshot
-    else if same_name word (codes "commute") then Some rules.Commute
-    else None
-
 abbrev pub rule_or : Option Rule → List (List ℕ) → Result (Rule × List (List ℕ)) Reason
 rule_or (Some rule) words = Ok (rule, words)
 rule_or None words = Err reasons.Word
 
 unfoldable pub rule_at : List (List ℕ) → Result (Rule × List (List ℕ)) Reason
 rule_at [] = Err reasons.Word
-rule_at (w ∷ ws) = rule_or (rule_of w) ws
+rule_at (w ∷ ws) = rule_or (rule_in w) ws
 
 unfoldable pub certifier_at : Deployment → List (List ℕ) → HeadRead
 certifier_at d words = do

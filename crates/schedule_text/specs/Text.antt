@@ -1,24 +1,17 @@
 -- The text of a schedule: its lines, and the bytes of all of them.
-use Rattle.std.specs.Prelude.{◌≡◌, ℕ, ◌+◌, List, [], ◌∷◌, ◌++◌, map, codes, decimal}
+use Rattle.std.specs.Prelude.{ℕ, ◌+◌, List, [], ◌∷◌, ◌++◌, map, codes, decimal}
 use Rattle.std.specs.List.{flat_map}
-use Rattle.tcs_terms.specs.declared.ids.TxId.{TxId}
 use Rattle.tcs_terms.specs.declared.inputs.Input.{Input}
 use Rattle.tcs_terms.specs.declared.inputs.Input.TheVariants.{Certify, Take, Nudge, Move, Lower, ReadName, Ask, Deliver}
 use Rattle.tcs_terms.specs.declared.inputs.Event.{Event}
 use Rattle.tcs_terms.specs.declared.inputs.Event.TheVariants.{Call, DeliverNumber, Stop}
 use Rattle.tcs_terms.specs.declared.setups.Rule.{Rule}
-use Rattle.tcs_terms.specs.declared.setups.Rule.TheVariants as rules
 use Rattle.tcs_terms.specs.Places.{Membership}
 use Rattle.tcs_terms.specs.PayloadText.{payload_text}
 use Rattle.tcs_terms.specs.Setups.{Deployment}
+use Rattle.tcs_terms.specs.Texts.{txn_text, rule_text}
 
 -- ---- parts of a line
-
--- the word of a rule
-abbrev pub rule_text : Rule → List ℕ
-rule_text rules.Serial = codes "serial"
-rule_text rules.Snapshot = codes "snapshot"
-rule_text rules.Commute = codes "commute"
 
 -- a number, with the space before it
 abbrev pub spaced_number : ℕ → List ℕ
@@ -27,10 +20,6 @@ spaced_number n = codes " " ++ decimal n
 -- numbers, with a space before each
 abbrev pub numbers_text : List ℕ → List ℕ
 numbers_text ns = flat_map spaced_number ns
-
--- a transaction: the node that made it, a dot, its number there
-abbrev pub txn_text : TxId → List ℕ
-txn_text t = decimal t.home ++ (codes "." ++ decimal t.seq)
 
 -- ---- the lines of the header
 
@@ -95,8 +84,3 @@ schedule_lines d es = setup_lines d ++ (map event_line es ++ codes "end" ∷ [])
 -- the one text of a schedule
 abbrev pub schedule_text : Deployment → List Event → List ℕ
 schedule_text d es = flat_map with_feed (schedule_lines d es)
-
--- what a printer that ran out of memory leaves: what was there before still stands in front
-pub record Keeps (before after : List ℕ) : Type 0 where
-  pub more : List ℕ
-  pub whole : after ≡ before ++ more

@@ -3,7 +3,7 @@ ghost use Rattle.std.specs.Prelude.{◌≡◌, ◌+◌, ◌<◌, ◌≤◌, ◌=
 ghost use Rattle.tcs_terms.specs.Payloads.{same_name};
 ghost use Rattle.tcs_terms.specs.Setups.{Deployment};
 ghost use Rattle.schedule_text.specs.Words.{Gives, Tells, end_at};
-ghost use Rattle.schedule_text.specs.Header.{Head, no_parts, rule_of, rule_at, version_at, certifier_at, shards_at, next_at, node_at, shard_in_order_at, members_at, config_or, first_config_at, config_at, setup_or, begun_at, has_place_for, events_at, part_at, head_at};
+ghost use Rattle.schedule_text.specs.Header.{Head, no_parts, rule_at, version_at, certifier_at, shards_at, next_at, node_at, shard_in_order_at, members_at, config_or, first_config_at, config_at, setup_or, begun_at, has_place_for, events_at, part_at, head_at};
 
 use crate::cursor::Words;
 use crate::faults::{LineFault, bad};
@@ -48,27 +48,6 @@ impl Model for Header {
     ghost invariant = { λ h. (length h.nodes.items ≤ MAX_NODES) × (h.shards ≤ MAX_SHARDS) × IsTrue ((h.version == 1) || (h.version == 2)) };
 }
 
-fn is_word(word: &[u8], other: &[u8]) -> bool
-    ensures { result ≡ same_name word.now other.now }
-{
-    word == other
-}
-
-/// The rule that a word names.
-fn rule_of(word: &[u8]) -> Option<Rule>
-    ensures { result ≡ rule_of word.now }
-{
-    if is_word(word, b"serial") {
-        Some(Rule::Serial)
-    } else if is_word(word, b"snapshot") {
-        Some(Rule::Snapshot)
-    } else if is_word(word, b"commute") {
-        Some(Rule::Commute)
-    } else {
-        None
-    }
-}
-
 #[tactic(auto, unfolding(crate::specs::Header::rule_at))]
 fn rule(words: &mut Words) -> Result<Rule, LineFault>
     ensures { Tells (λ r. r) result words.new (rule_at words.old) }
@@ -76,7 +55,7 @@ fn rule(words: &mut Words) -> Result<Rule, LineFault>
     let Some(word) = words.take() else {
         return bad(Reason::Word);
     };
-    match rule_of(word) {
+    match Rule::named(word) {
         Some(rule) => Ok(rule),
         None => bad(Reason::Word),
     }

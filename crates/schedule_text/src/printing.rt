@@ -3,32 +3,32 @@ ghost use Rattle.std.specs.Prelude.{◌≡◌, ◌≤◌, ◌++◌, ◌∷◌, [
 ghost use Rattle.std.specs.List.{flat_map};
 ghost use Rattle.tcs_terms.specs.declared.limits.TheConstants.{MAX_NODES};
 ghost use Rattle.tcs_terms.specs.PayloadText.{payload_text};
-ghost use Rattle.schedule_text.specs.Text.{rule_text, spaced_number, numbers_text, txn_text, version_line, certifier_line, shards_line, node_line, node_lines, config_line, first_lines, setup_lines, call_line, event_line, with_feed, Keeps};
+ghost use Rattle.tcs_terms.specs.Texts.{Begins};
+ghost use Rattle.schedule_text.specs.Text.{spaced_number, numbers_text, version_line, certifier_line, shards_line, node_line, node_lines, config_line, first_lines, setup_lines, call_line, event_line, with_feed};
 
-use itoa::Buffer;
 use tcs_terms::{
-    Config, Event, Input, NodeId, OutOfMemory, Payload, Rule, Setup, ShardId, TxId, print_payload,
+    Config, Event, Input, NodeId, OutOfMemory, Payload, Setup, ShardId, print_number,
+    print_payload, print_txn,
 };
 
 fn put(out: &mut Vec<u8>, text: &[u8]) -> Result<(), OutOfMemory>
     ensures ok { OnOk result (out.new.items ≡ out.old.items ++ text.now) }
-    ensures err { OnErr result (Keeps out.old.items out.new.items) }
+    ensures err { OnErr result (Begins out.old.items out.new.items) }
 {
     Ok(out.extend_from_slice(text)?)
 }
 
 fn put_number(out: &mut Vec<u8>, number: u64) -> Result<(), OutOfMemory>
     ensures ok { OnOk result (out.new.items ≡ out.old.items ++ decimal number) }
-    ensures err { OnErr result (Keeps out.old.items out.new.items) }
+    ensures err { OnErr result (Begins out.old.items out.new.items) }
 {
-    let mut digits = Buffer::new();
-    put(out, digits.format(number).as_bytes())
+    print_number(number, out)
 }
 
 /// A number, with the space before it.
 fn put_spaced(out: &mut Vec<u8>, number: u64) -> Result<(), OutOfMemory>
     ensures ok { OnOk result (out.new.items ≡ out.old.items ++ spaced_number number) }
-    ensures err { OnErr result (Keeps out.old.items out.new.items) }
+    ensures err { OnErr result (Begins out.old.items out.new.items) }
 {
     put(out, b" ")?;
     put_number(out, number)
@@ -37,7 +37,7 @@ fn put_spaced(out: &mut Vec<u8>, number: u64) -> Result<(), OutOfMemory>
 /// Numbers, with a space before each.
 fn put_numbers(out: &mut Vec<u8>, numbers: &[u8]) -> Result<(), OutOfMemory>
     ensures ok { OnOk result (out.new.items ≡ out.old.items ++ numbers_text numbers.now) }
-    ensures err { OnErr result (Keeps out.old.items out.new.items) }
+    ensures err { OnErr result (Begins out.old.items out.new.items) }
 {
     'numbers: for number in numbers {
         put_spaced(out, u64::from(*number))?;
@@ -45,28 +45,9 @@ fn put_numbers(out: &mut Vec<u8>, numbers: &[u8]) -> Result<(), OutOfMemory>
     Ok(())
 }
 
-fn put_txn(out: &mut Vec<u8>, txn: &TxId) -> Result<(), OutOfMemory>
-    ensures ok { OnOk result (out.new.items ≡ out.old.items ++ txn_text txn.now) }
-    ensures err { OnErr result (Keeps out.old.items out.new.items) }
-{
-    put_number(out, u64::from(txn.home))?;
-    put(out, b".")?;
-    put_number(out, u64::from(txn.seq))
-}
-
-fn rule_word(rule: Rule) -> &'static [u8]
-    ensures { result.now ≡ rule_text rule }
-{
-    match rule {
-        Rule::Serial => b"serial",
-        Rule::Snapshot => b"snapshot",
-        Rule::Commute => b"commute",
-    }
-}
-
 fn put_version(out: &mut Vec<u8>, setup: &Setup) -> Result<(), OutOfMemory>
     ensures ok { OnOk result (out.new.items ≡ out.old.items ++ with_feed (version_line setup.now.version)) }
-    ensures err { OnErr result (Keeps out.old.items out.new.items) }
+    ensures err { OnErr result (Begins out.old.items out.new.items) }
 {
     put(out, b"tcs")?;
     put_spaced(out, u64::from(setup.version()))?;
@@ -75,16 +56,16 @@ fn put_version(out: &mut Vec<u8>, setup: &Setup) -> Result<(), OutOfMemory>
 
 fn put_certifier(out: &mut Vec<u8>, setup: &Setup) -> Result<(), OutOfMemory>
     ensures ok { OnOk result (out.new.items ≡ out.old.items ++ with_feed (certifier_line setup.now.rule)) }
-    ensures err { OnErr result (Keeps out.old.items out.new.items) }
+    ensures err { OnErr result (Begins out.old.items out.new.items) }
 {
     put(out, b"certifier ")?;
-    put(out, rule_word(setup.rule()))?;
+    put(out, setup.rule().word().as_bytes())?;
     put(out, b"\n")
 }
 
 fn put_shards(out: &mut Vec<u8>, setup: &Setup) -> Result<(), OutOfMemory>
     ensures ok { OnOk result (out.new.items ≡ out.old.items ++ with_feed (shards_line setup.now.shards)) }
-    ensures err { OnErr result (Keeps out.old.items out.new.items) }
+    ensures err { OnErr result (Begins out.old.items out.new.items) }
 {
     put(out, b"shards")?;
     put_spaced(out, u64::from(setup.shards()))?;
@@ -94,7 +75,7 @@ fn put_shards(out: &mut Vec<u8>, setup: &Setup) -> Result<(), OutOfMemory>
 /// The lines before the nodes.
 fn put_first_lines(out: &mut Vec<u8>, setup: &Setup) -> Result<(), OutOfMemory>
     ensures ok { OnOk result (out.new.items ≡ out.old.items ++ flat_map with_feed (first_lines setup.now)) }
-    ensures err { OnErr result (Keeps out.old.items out.new.items) }
+    ensures err { OnErr result (Begins out.old.items out.new.items) }
 {
     put_version(out, setup)?;
     put_certifier(out, setup)?;
@@ -103,7 +84,7 @@ fn put_first_lines(out: &mut Vec<u8>, setup: &Setup) -> Result<(), OutOfMemory>
 
 fn put_node(out: &mut Vec<u8>, node: u8, shard: ShardId) -> Result<(), OutOfMemory>
     ensures ok { OnOk result (out.new.items ≡ out.old.items ++ with_feed (node_line node shard)) }
-    ensures err { OnErr result (Keeps out.old.items out.new.items) }
+    ensures err { OnErr result (Begins out.old.items out.new.items) }
 {
     put(out, b"node")?;
     put_spaced(out, u64::from(node))?;
@@ -115,7 +96,7 @@ fn put_node(out: &mut Vec<u8>, node: u8, shard: ShardId) -> Result<(), OutOfMemo
 fn put_nodes(out: &mut Vec<u8>, nodes: &[ShardId]) -> Result<(), OutOfMemory>
     requires { length nodes.now ≤ MAX_NODES }
     ensures ok { OnOk result (out.new.items ≡ out.old.items ++ flat_map with_feed (node_lines 1 nodes.now)) }
-    ensures err { OnErr result (Keeps out.old.items out.new.items) }
+    ensures err { OnErr result (Begins out.old.items out.new.items) }
 {
     let mut node = 1;
     'nodes: for shard in nodes {
@@ -127,7 +108,7 @@ fn put_nodes(out: &mut Vec<u8>, nodes: &[ShardId]) -> Result<(), OutOfMemory>
 
 fn put_config(out: &mut Vec<u8>, config: &Config) -> Result<(), OutOfMemory>
     ensures ok { OnOk result (out.new.items ≡ out.old.items ++ with_feed (config_line config.now)) }
-    ensures err { OnErr result (Keeps out.old.items out.new.items) }
+    ensures err { OnErr result (Begins out.old.items out.new.items) }
 {
     put(out, b"config")?;
     put_spaced(out, u64::from(config.shard()))?;
@@ -138,7 +119,7 @@ fn put_config(out: &mut Vec<u8>, config: &Config) -> Result<(), OutOfMemory>
 
 fn put_configs(out: &mut Vec<u8>, configs: &[Config]) -> Result<(), OutOfMemory>
     ensures ok { OnOk result (out.new.items ≡ out.old.items ++ flat_map with_feed (map config_line configs.now)) }
-    ensures err { OnErr result (Keeps out.old.items out.new.items) }
+    ensures err { OnErr result (Begins out.old.items out.new.items) }
 {
     'configs: for config in configs {
         put_config(out, config)?;
@@ -148,7 +129,7 @@ fn put_configs(out: &mut Vec<u8>, configs: &[Config]) -> Result<(), OutOfMemory>
 
 fn put_parts(out: &mut Vec<u8>, setup: &Setup) -> Result<(), OutOfMemory>
     ensures ok { OnOk result (out.new.items ≡ out.old.items ++ flat_map with_feed (node_lines 1 setup.now.nodes ++ map config_line setup.now.configs)) }
-    ensures err { OnErr result (Keeps out.old.items out.new.items) }
+    ensures err { OnErr result (Begins out.old.items out.new.items) }
 {
     put_nodes(out, setup.nodes())?;
     put_configs(out, setup.configs())
@@ -159,7 +140,7 @@ fn put_parts(out: &mut Vec<u8>, setup: &Setup) -> Result<(), OutOfMemory>
 #[tactic(auto, unfolding(crate::specs::Text::setup_lines))]
 pub fn print_setup(setup: &Setup, out: &mut Vec<u8>) -> Result<(), OutOfMemory>
     ensures ok { OnOk result (out.new.items ≡ out.old.items ++ flat_map with_feed (setup_lines setup.now)) }
-    ensures err { OnErr result (Keeps out.old.items out.new.items) }
+    ensures err { OnErr result (Begins out.old.items out.new.items) }
 {
     put_first_lines(out, setup)?;
     put_parts(out, setup)?;
@@ -170,14 +151,14 @@ pub fn print_setup(setup: &Setup, out: &mut Vec<u8>) -> Result<(), OutOfMemory>
 #[tactic(auto, unfolding(crate::specs::Text::call_line))]
 fn put_call(out: &mut Vec<u8>, node: NodeId, input: &Input) -> Result<(), OutOfMemory>
     ensures ok { OnOk result (out.new.items ≡ out.old.items ++ call_line node input.now) }
-    ensures err { OnErr result (Keeps out.old.items out.new.items) }
+    ensures err { OnErr result (Begins out.old.items out.new.items) }
 {
     match input {
         Input::Certify(payload) => put_certify(out, node, payload),
         Input::Take(txn) => {
             put_headed(out, b"take", node)?;
             put(out, b" ")?;
-            put_txn(out, txn)
+            print_txn(*txn, out)
         }
         Input::Nudge => put_headed(out, b"nudge", node),
         Input::Move { shard, want } => {
@@ -201,7 +182,7 @@ fn put_call(out: &mut Vec<u8>, node: NodeId, input: &Input) -> Result<(), OutOfM
 
 fn put_certify(out: &mut Vec<u8>, node: NodeId, payload: &Payload) -> Result<(), OutOfMemory>
     ensures ok { OnOk result (out.new.items ≡ out.old.items ++ (codes "certify" ++ (spaced_number node ++ (codes " " ++ payload_text payload.now)))) }
-    ensures err { OnErr result (Keeps out.old.items out.new.items) }
+    ensures err { OnErr result (Begins out.old.items out.new.items) }
 {
     put_headed(out, b"certify", node)?;
     put(out, b" ")?;
@@ -210,7 +191,7 @@ fn put_certify(out: &mut Vec<u8>, node: NodeId, payload: &Payload) -> Result<(),
 
 fn put_payload(out: &mut Vec<u8>, payload: &Payload) -> Result<(), OutOfMemory>
     ensures ok { OnOk result (out.new.items ≡ out.old.items ++ payload_text payload.now) }
-    ensures err { OnErr result (Keeps out.old.items out.new.items) }
+    ensures err { OnErr result (Begins out.old.items out.new.items) }
 {
     print_payload(payload, out)
 }
@@ -218,7 +199,7 @@ fn put_payload(out: &mut Vec<u8>, payload: &Payload) -> Result<(), OutOfMemory>
 /// The first word of a line, and the node after it.
 fn put_headed(out: &mut Vec<u8>, word: &[u8], node: NodeId) -> Result<(), OutOfMemory>
     ensures ok { OnOk result (out.new.items ≡ out.old.items ++ (word.now ++ spaced_number node)) }
-    ensures err { OnErr result (Keeps out.old.items out.new.items) }
+    ensures err { OnErr result (Begins out.old.items out.new.items) }
 {
     put(out, word)?;
     put_spaced(out, u64::from(node))
@@ -227,7 +208,7 @@ fn put_headed(out: &mut Vec<u8>, word: &[u8], node: NodeId) -> Result<(), OutOfM
 /// The line of an event, without its line feed.
 fn put_event(out: &mut Vec<u8>, event: &Event) -> Result<(), OutOfMemory>
     ensures ok { OnOk result (out.new.items ≡ out.old.items ++ event_line event.now) }
-    ensures err { OnErr result (Keeps out.old.items out.new.items) }
+    ensures err { OnErr result (Begins out.old.items out.new.items) }
 {
     match event {
         Event::Call { node, input } => put_call(out, *node, input),
@@ -242,7 +223,7 @@ fn put_event(out: &mut Vec<u8>, event: &Event) -> Result<(), OutOfMemory>
 /// Appends the line of an event that fits some setup; another may have an empty one. After want of memory the buffer begins with what it held.
 pub fn print_event(event: &Event, out: &mut Vec<u8>) -> Result<(), OutOfMemory>
     ensures ok { OnOk result (out.new.items ≡ out.old.items ++ with_feed (event_line event.now)) }
-    ensures err { OnErr result (Keeps out.old.items out.new.items) }
+    ensures err { OnErr result (Begins out.old.items out.new.items) }
 {
     put_event(out, event)?;
     put(out, b"\n")

@@ -6,9 +6,9 @@ ghost use Rattle.schedule_text.specs.Words.{Gives, Tells, txn_numbers, txn_parts
 
 use crate::cursor::Words;
 use crate::faults::{LineFault, bad};
-use crate::word_readers::{has_node, is_numeral, number_in};
+use crate::word_readers::has_node;
 use tcs_terms::limits::MAX_SEQUENCE;
-use tcs_terms::{NodeId, Reason, ShardId, TxId};
+use tcs_terms::{NodeId, Reason, ShardId, TxId, is_numeral, read_number};
 
 /// The numbers are in range.
 fn txn_of(nodes: &[ShardId], home: Option<u64>, seq: Option<u64>) -> Result<TxId, LineFault>
@@ -38,7 +38,7 @@ fn txn_parts(nodes: &[ShardId], home: &[u8], seq: &[u8]) -> Result<TxId, LineFau
     if !(is_numeral(home) && is_numeral(seq)) {
         return bad(Reason::Word);
     }
-    txn_of(nodes, number_in(home), number_in(seq))
+    txn_of(nodes, read_number(home), read_number(seq))
 }
 
 fn dot_in(word: &[u8]) -> Option<usize>

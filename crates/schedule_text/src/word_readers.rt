@@ -1,17 +1,17 @@
 //! Readers of one word: each takes it from the words that are left, and gives its value.
 ghost use Rattle.std.specs.Prelude.{◌≡◌, ◌+◌, ◌≤◌, ◌==◌, ◌∷◌, length, IsTrue, ◌||◌, IfOk};
-ghost use Rattle.std.specs.Char.{is_ascii_digit};
 ghost use Rattle.std.specs.List.{list_all};
 ghost use Rattle.tcs_terms.specs.declared.limits.TheConstants.{MAX_NODES};
-ghost use Rattle.tcs_terms.specs.PayloadWords.{is_numeral, number_in, is_printable, payload_at};
+ghost use Rattle.tcs_terms.specs.PayloadWords.{is_printable, payload_at};
 ghost use Rattle.tcs_terms.specs.Setups.{has_node, is_node_of};
 ghost use Rattle.schedule_text.specs.Words.{Gives, Tells, Fails, fixed_at, end_at, number_at, between_at, is_for, caller_at, node_of_at, name_at, payload_words_at, next_node_at};
 
 use crate::cursor::Words;
 use crate::faults::{LineFault, bad};
 use std::alloc::Global;
-use std::str;
-use tcs_terms::{Name, NameFault, NodeId, Payload, Reason, ShardId, WordFault, read_payload};
+use tcs_terms::{
+    Name, NameFault, NodeId, Payload, Reason, ShardId, WordFault, read_number, read_payload,
+};
 
 /// A word that is fixed.
 pub(crate) fn fixed(word: &[u8], words: &mut Words) -> Result<(), LineFault>
@@ -40,32 +40,6 @@ fn are_printable(word: &[u8]) -> bool
     word.iter().all(|byte| 32 <= *byte && *byte <= 126)
 }
 
-fn are_digits(word: &[u8]) -> bool
-    ensures { result ≡ list_all is_ascii_digit word.now }
-{
-    word.iter().all(|byte| byte.is_ascii_digit())
-}
-
-/// Whether a word has the form of a number: decimal digits, without a leading zero.
-pub(crate) fn is_numeral(word: &[u8]) -> bool
-    ensures { result ≡ is_numeral word.now }
-{
-    !word.is_empty() && (word[0] != b'0' || word.len() == 1) && are_digits(word)
-}
-
-/// The number that a word writes.
-pub(crate) fn number_in(word: &[u8]) -> Option<u64>
-    ensures { result ≡ number_in word.now }
-{
-    if !is_numeral(word) {
-        return None;
-    }
-    let Ok(text) = str::from_utf8(word) else {
-        return None;
-    };
-    text.parse().ok()
-}
-
 /// A number.
 #[tactic(auto, unfolding(tcs_terms::specs::PayloadWords::number_word))]
 pub(crate) fn number(words: &mut Words) -> Result<u64, LineFault>
@@ -74,7 +48,7 @@ pub(crate) fn number(words: &mut Words) -> Result<u64, LineFault>
     let Some(word) = words.take() else {
         return bad(Reason::Word);
     };
-    if let Some(number) = number_in(word) {
+    if let Some(number) = read_number(word) {
         return Ok(number);
     }
     if word.is_empty() || !are_printable(word) {

@@ -4,10 +4,12 @@ pub mod NameLaws
 pub mod PayloadLaws
 pub mod PlaceLaws
 pub mod NumberLaws
+pub mod Appending
 pub mod ValueLaws
 pub mod WordLaws
 pub mod PartLoops
 pub mod WordReadings
+pub mod RuleReadings
 pub mod RowLaws
 pub mod SetupLaws
 pub mod ShardLaws

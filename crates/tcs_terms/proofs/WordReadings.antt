@@ -49,7 +49,7 @@ first_of_numeral word h zero_first =
     let form = right_of (not (length word == 0)) (not (slice_index word 0 == 48) || (length word == 1)) (form_of_numeral word h) in
     grind (arith, nat_tests)
 
-number_in_takes : (word : List ℕ) (n : ℕ) → number_in word ≡ Some n → (word ≡ decimal n) × (n < 2 ^ 64)
+pub number_in_takes : (word : List ℕ) (n : ℕ) → number_in word ≡ Some n → (word ≡ decimal n) × (n < 2 ^ 64)
 number_in_takes word n h = go (is_numeral word) (nat_lt (digits_value 10 word) (2 ^ 64)) refl refl h where
   go : (a b : Bool) → is_numeral word ≡ a → nat_lt (digits_value 10 word) (2 ^ 64) ≡ b → cond (a && b) (Some (digits_value 10 word)) None ≡ Some n → (word ≡ decimal n) × (n < 2 ^ 64)
   go true true e l s =
@@ -72,7 +72,7 @@ decimal_is_numeral n small =
     both (not (length (decimal n) == 0) && (not (slice_index (decimal n) 0 == 48) || (length (decimal n) == 1))) (list_all is_ascii_digit (decimal n))
     (both (not (length (decimal n) == 0)) (not (slice_index (decimal n) 0 == 48) || (length (decimal n) == 1)) nonempty led) digits
 
-number_in_again : (n : ℕ) → n < 2 ^ 64 → number_in (decimal n) ≡ Some n
+pub number_in_again : (n : ℕ) → n < 2 ^ 64 → number_in (decimal n) ≡ Some n
 number_in_again n small =
     let numeral = decimal_is_numeral n small in
     let value = digits_value-decimal numerals n small in

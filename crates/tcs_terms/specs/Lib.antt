@@ -14,5 +14,6 @@ pub mod Messages
 pub mod Events
 pub mod PayloadText
 pub mod Words
+pub mod Texts
 pub mod PayloadWords
 pub mod Shards

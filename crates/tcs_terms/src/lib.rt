@@ -27,6 +27,7 @@ mod shard_sets;
 mod shards;
 #[cfg(test)]
 mod tests;
+mod texts;
 mod votes;
 mod word_list;
 mod word_readers;
@@ -46,5 +47,6 @@ pub use reading::read_payload;
 pub use setups::{Rule, Setup};
 pub use shard_sets::ShardSet;
 pub use shards::shard_of;
+pub use texts::{is_numeral, print_number, print_txn, read_number};
 pub use votes::{Cause, Decision, Vote};
 pub use words::{Reason, WordFault};

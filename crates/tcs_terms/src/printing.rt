@@ -5,16 +5,8 @@ ghost use Rattle.tcs_terms.specs.PayloadText.{value_text, read_text, range_text,
 
 use crate::memory::OutOfMemory;
 use crate::payloads::{Payload, RangePart, ReadPart, WritePart};
-use itoa::Buffer;
+use crate::texts::print_number;
 use std::alloc::Global;
-
-fn push_number(text: &mut Vec<u8>, number: u64) -> Result<(), OutOfMemory>
-    ensures { OnOk result (text.new.items ≡ text.old.items ++ decimal number) }
-{
-    let mut buffer = Buffer::new();
-    text.extend_from_slice(buffer.format(number).as_bytes())?;
-    Ok(())
-}
 
 fn push_value(text: &mut Vec<u8>, value: &[u8]) -> Result<(), OutOfMemory>
     ensures { OnOk result (text.new.items ≡ text.old.items ++ value_text value.now) }
@@ -35,7 +27,7 @@ fn push_read(text: &mut Vec<u8>, read: &ReadPart) -> Result<(), OutOfMemory>
     text.extend_from_slice(b" r ")?;
     text.extend_from_slice(read.name.bytes())?;
     text.push(b' ')?;
-    push_number(text, read.version)
+    print_number(read.version, text)
 }
 
 fn push_range(text: &mut Vec<u8>, range: &RangePart) -> Result<(), OutOfMemory>
@@ -46,7 +38,7 @@ fn push_range(text: &mut Vec<u8>, range: &RangePart) -> Result<(), OutOfMemory>
     text.push(b' ')?;
     text.extend_from_slice(range.upto.bytes())?;
     text.push(b' ')?;
-    push_number(text, range.version)
+    print_number(range.version, text)
 }
 
 fn push_write(text: &mut Vec<u8>, write: &WritePart) -> Result<(), OutOfMemory>
@@ -91,7 +83,7 @@ fn text_of(alloc: Global, payload: &Payload) -> Result<Vec<u8>, OutOfMemory>
     ensures { IfOk result (λ text. text.items ≡ payload_text payload.now) }
 {
     let mut text = Vec::from_slice(alloc, b"v ")?;
-    push_number(&mut text, payload.version())?;
+    print_number(payload.version(), &mut text)?;
     push_reads(&mut text, payload.reads())?;
     push_ranges(&mut text, payload.ranges())?;
     push_writes(&mut text, payload.writes())?;

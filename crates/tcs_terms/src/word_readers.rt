@@ -1,12 +1,11 @@
 //! Readers of one word: each takes it from the words that are left, and gives its value.
 ghost use Rattle.std.specs.Prelude.{◌≡◌, ◌+◌, ◌≤◌, ◌∷◌, length, Err};
-ghost use Rattle.std.specs.Char.{is_ascii_digit};
 ghost use Rattle.std.specs.List.{list_all};
 ghost use Rattle.std.specs.Result.{result_ok};
 ghost use Rattle.hex.specs.Hex.{decode_of};
 ghost use Rattle.tcs_terms.specs.declared.words.Stop.TheVariants.{Misfit};
 ghost use Rattle.tcs_terms.specs.Words.{begins, after};
-ghost use Rattle.tcs_terms.specs.PayloadWords.{Gives, Tells, fixed_word, number_in, is_numeral, name_in, is_printable, is_lower_digit, value_in, value_or, number_word, name_word, from_word, written_word, value_word, commit_word, version_word};
+ghost use Rattle.tcs_terms.specs.PayloadWords.{Gives, Tells, fixed_word, name_in, is_printable, is_lower_digit, value_in, value_or, number_word, name_word, from_word, written_word, value_word, commit_word, version_word};
 
 use crate::faults::NameFault;
 use crate::limits::MAX_VALUE;
@@ -14,6 +13,7 @@ use crate::objects::{Name, Value};
 use crate::order::name_before;
 use crate::payload_faults::reads_name;
 use crate::payloads::ReadPart;
+use crate::texts::read_number;
 use crate::word_list::WordList;
 use crate::words::{Reason, Stop};
 use hex::FromHexError;
@@ -50,32 +50,6 @@ fn are_lower_digits(word: &[u8]) -> bool
         .all(|byte| matches!(*byte, b'0'..=b'9' | b'a'..=b'f'))
 }
 
-/// Whether a word has the form of a number.
-fn is_numeral(word: &[u8]) -> bool
-    ensures { result ≡ is_numeral word.now }
-{
-    !word.is_empty() && (word[0] != b'0' || word.len() == 1) && are_digits(word)
-}
-
-fn are_digits(word: &[u8]) -> bool
-    ensures { result ≡ list_all is_ascii_digit word.now }
-{
-    word.iter().all(|byte| byte.is_ascii_digit())
-}
-
-/// The number that a word writes.
-fn number_in(word: &[u8]) -> Option<u64>
-    ensures { result ≡ number_in word.now }
-{
-    if !is_numeral(word) {
-        return None;
-    }
-    let Ok(text) = str::from_utf8(word) else {
-        return None;
-    };
-    text.parse().ok()
-}
-
 /// A number.
 #[tactic(auto, unfolding(crate::specs::PayloadWords::number_word))]
 fn number_word(words: &mut WordList) -> Result<u64, Stop>
@@ -85,7 +59,7 @@ fn number_word(words: &mut WordList) -> Result<u64, Stop>
     let Some(word) = words.take() else {
         return misfit(left, Reason::Word);
     };
-    if let Some(number) = number_in(word) {
+    if let Some(number) = read_number(word) {
         return Ok(number);
     }
     if word.is_empty() || !are_printable(word) {

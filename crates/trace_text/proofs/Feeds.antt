@@ -26,7 +26,8 @@ use Rattle.tcs_terms.specs.PayloadText.{value_text, read_text, range_text, write
 use Rattle.tcs_terms.specs.PayloadWords.{is_lower_digit}
 use Rattle.tcs_terms.proofs.BoolLaws.{both, left_of, right_of, not_false}
 use Rattle.tcs_terms.proofs.ValueLaws.{bytes_everywhere, encoded_is_lower}
-use Rattle.trace_text.specs.Texts.{rule_text, txn_text, result_text, cause_text, decision_text, note_text, kind_text, order_text}
+use Rattle.tcs_terms.specs.Texts.{rule_text, txn_text}
+use Rattle.trace_text.specs.Texts.{result_text, cause_text, decision_text, note_text, kind_text, order_text}
 use Rattle.trace_text.specs.Lines.{Line, HeadLine, EventLine, NoteLine, MessageLine, OrderLine, EndLine, line_text, Standing, IsStanding, MayStand, IsResult, IsCause, IsDecision, IsNote}
 use Rattle.trace_text.proofs.Cuts.{lacks}
 use Rattle.trace_text.proofs.PlainWords.{weaker, decimal_lacks, name_lacks, rule_lacks, small_within, txn_lacks}

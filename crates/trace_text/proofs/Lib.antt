@@ -1,4 +1,3 @@
-pub mod Appending
 pub mod Steps
 pub mod Cuts
 pub mod WordLists

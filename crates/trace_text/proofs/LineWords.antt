@@ -10,13 +10,16 @@ use Rattle.tcs_terms.specs.declared.inputs.Result1.{Result1}
 use Rattle.tcs_terms.specs.declared.setups.Rule.{Rule}
 use Rattle.tcs_terms.specs.PayloadWords.{number_in}
 use Rattle.tcs_terms.proofs.BoolLaws.{both, left_of, right_of}
-use Rattle.trace_text.specs.Texts.{rule_text, result_text, note_text, order_text}
+use Rattle.tcs_terms.specs.Texts.{rule_text, rule_in}
+use Rattle.trace_text.specs.Texts.{result_text, note_text, order_text}
 use Rattle.trace_text.specs.Lines.{Line, HeadLine, EventLine, NoteLine, MessageLine, OrderLine, EndLine, line_text, Standing, IsStanding, MayStand, is_start, is_within, is_event, has_event, is_ordered}
-use Rattle.trace_text.specs.Words.{cut, is_word, number_within, next_number, rule_in}
+use Rattle.trace_text.specs.Words.{cut, is_word, number_within, next_number}
 use Rattle.trace_text.specs.Readings.{Ends, result_in, note_in, frame_in, head_of, event_of, note_of, ends_of, message_of, order_in, order_of, end_of, line_of, line_in}
 use Rattle.trace_text.proofs.Steps.{bind_some, some_is, kept, either}
 use Rattle.trace_text.proofs.Cuts.{lacks, cut_takes, cut_again}
-use Rattle.trace_text.proofs.PlainWords.{word_is, decimal_lacks, rule_lacks, number_in_takes, number_in_again, within_takes, within_again, small_within, next_takes, next_again, rule_takes, rule_again}
+use Rattle.trace_text.proofs.PlainWords.{word_is, decimal_lacks, rule_lacks, within_takes, within_again, small_within, next_takes, next_again}
+use Rattle.tcs_terms.proofs.WordReadings.{number_in_takes, number_in_again}
+use Rattle.tcs_terms.proofs.RuleReadings.{rule_named, word_names}
 use Rattle.trace_text.proofs.ResultWords.{result_takes, result_again}
 use Rattle.trace_text.proofs.NoteWords.{note_takes, note_again}
 use Rattle.trace_text.proofs.FrameWords.{frame_text, frame_takes_text, frame_reads_again}
@@ -55,7 +58,7 @@ head_takes s text line stage h =
     let c = cut_takes 32 text words.0 words.1 in
     let o = cut_takes 32 words.0.1 others.0 others.1 in
     let v = within_takes 1 2 words.0.0 version.0 version.1 in
-    let r = rule_takes others.0.0 rule.0 rule.1 in
+    let r = rule_named others.0.0 rule.0 rule.1 in
     let n = within_takes 1 MAX_SHARDS others.0.1 shards.0 shards.1 in
     subst (Read s (codes "trace") text) (some_is (HeadLine version.0 rule.0 shards.0) line shards.2) (record {
       stands = (stage, v.fits, n.fits);
@@ -211,7 +214,7 @@ head_again s version rule shards h =
       cut_again 32 (decimal version) (rule_text rule ++ 32 ∷ decimal shards) (decimal_lacks 32 version (omega arith) small_version),
       cut_again 32 (rule_text rule) (decimal shards) (rule_lacks 32 rule (omega arith)),
       within_again 1 2 version h.1 small_version,
-      rule_again rule,
+      word_names rule,
       within_again 1 MAX_SHARDS shards h.2 small_shards,
     ) refl
 

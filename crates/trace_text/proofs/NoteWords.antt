@@ -13,7 +13,8 @@ use Rattle.tcs_terms.specs.Words.{words_of}
 use Rattle.tcs_terms.proofs.PayloadReadings.{payload_takes}
 use Rattle.tcs_terms.proofs.PayloadSpelling.{text_of_words, text_read_again}
 use Rattle.tcs_terms.proofs.ValueLaws.{value_in_takes, value_in_again}
-use Rattle.trace_text.specs.Texts.{txn_text, decision_text, note_text}
+use Rattle.tcs_terms.specs.Texts.{txn_text}
+use Rattle.trace_text.specs.Texts.{decision_text, note_text}
 use Rattle.trace_text.specs.Lines.{IsNote, Standing, is_event}
 use Rattle.trace_text.specs.Words.{cut, is_word, txn_in, name_in}
 use Rattle.trace_text.specs.Readings.{begin_in, take_in, read_in, decide_in, decision_in, note_in, note_of, line_of}

@@ -8,7 +8,8 @@ use Rattle.tcs_terms.specs.declared.ids.TxId.{TxId}
 use Rattle.tcs_terms.specs.Messages.{is_txn}
 use Rattle.tcs_terms.specs.Words.{words_of}
 use Rattle.tcs_terms.proofs.BoolLaws.{both, left_of, right_of}
-use Rattle.trace_text.specs.Texts.{txn_text, order_text}
+use Rattle.tcs_terms.specs.Texts.{txn_text}
+use Rattle.trace_text.specs.Texts.{order_text}
 use Rattle.trace_text.specs.Words.{cut, is_word, txn_in, each_txn}
 use Rattle.trace_text.specs.Readings.{order_in}
 use Rattle.trace_text.proofs.Steps.{bind_some, some_is, either}

@@ -20,10 +20,10 @@ use Rattle.tcs_terms.specs.Messages.{is_txn}
 use Rattle.tcs_terms.specs.PayloadWords.{misfit, is_printable, number_in, number_or, number_word}
 use Rattle.tcs_terms.proofs.BoolLaws.{both, left_of, right_of}
 use Rattle.tcs_terms.proofs.NameLaws.{is_name_without_fault, no_fault_of_a_name}
+use Rattle.tcs_terms.specs.Texts.{txn_text, rule_text}
 use Rattle.tcs_terms.proofs.NumberLaws.{numerals}
-use Rattle.tcs_terms.proofs.WordReadings.{ok_is, number_takes, number_again}
-use Rattle.trace_text.specs.Texts.{rule_text, txn_text}
-use Rattle.trace_text.specs.Words.{cut, is_word, number_within, next_number, txn_in, rule_in, name_in}
+use Rattle.tcs_terms.proofs.WordReadings.{number_in_takes, number_in_again}
+use Rattle.trace_text.specs.Words.{cut, is_word, number_within, next_number, txn_in, name_in}
 use Rattle.trace_text.proofs.Steps.{bind_some, some_is, kept, either}
 use Rattle.trace_text.proofs.Cuts.{lacks, cut_takes, cut_again}
 
@@ -46,25 +46,6 @@ pub name_lacks : (byte : ℕ) (name : List ℕ) → byte < 48 → IsName name �
 name_lacks byte name low h = name_bytes_lack byte name low h.alphabet
 
 -- ---- numbers
-
-pub number_in_takes : (word : List ℕ) (n : ℕ) → number_in word ≡ Some n → (word ≡ decimal n) × (n < 2 ^ 64)
-unfolding number_word
-number_in_takes word n h =
-    let t = number_takes (word ∷ []) (n, []) (ap (λ (o : Option ℕ). number_or o word []) h) in
-    (first_of word (decimal n) t.0, t.1) where
-      first_of : (v w : List ℕ) → ◌≡◌ {A = List (List ℕ)} (v ∷ []) (w ∷ []) → v ≡ w
-      first_of v w e = cc
-
-pub number_in_again : (n : ℕ) → n < 2 ^ 64 → number_in (decimal n) ≡ Some n
-unfolding number_word
-number_in_again n small = go (number_in (decimal n)) (number_again n [] small) where
-  refused : (b : Bool) → cond b (misfit {A = ℕ × List (List ℕ)} reasons.Word 1) (misfit reasons.Number 1) ≡ Ok (n, []) → ◌≡◌ {A = Option ℕ} None (Some n)
-  refused true e = absurd cc
-  refused false e = absurd cc
-
-  go : (o : Option ℕ) → number_or o (decimal n) [] ≡ Ok (n, []) → o ≡ Some n
-  go (Some k) e = ap (λ (x : ℕ × List (List ℕ)). Some x.0) (ok_is (k, []) (n, []) e)
-  go None e = refused ((length (decimal n) == 0) || not (list_all is_printable (decimal n))) e
 
 -- a number that was read, in its range
 pub record Within (low high : ℕ) (text : List ℕ) (n : ℕ) : Type 0 where
@@ -139,22 +120,6 @@ txn_lacks byte t low h =
     (both (not (46 == byte)) (lacks byte (decimal t.seq)) dot (decimal_lacks byte t.seq (omega arith) seq))
 
 -- ---- rules
-
-pub rule_takes : (text : List ℕ) (r : Rule) → rule_in text ≡ Some r → text ≡ rule_text r
-unfolding rule_in
-rule_takes text r h = elim (either (is_word (codes "serial") text) (Some Serial) _ r h) [
-  | inl a ↦ word_is (codes "serial") text a.0 ∙ ap rule_text (some_is Serial r a.1)
-  | inr b ↦ elim (either (is_word (codes "snapshot") text) (Some Snapshot) _ r b.1) [
-    | inl a ↦ word_is (codes "snapshot") text a.0 ∙ ap rule_text (some_is Snapshot r a.1)
-    | inr d ↦ (let k = kept (is_word (codes "commute") text) Commute r d.1 in word_is (codes "commute") text k.0 ∙ ap rule_text k.1)
-  ]
-]
-
-pub rule_again : (r : Rule) → rule_in (rule_text r) ≡ Some r
-unfolding rule_in
-rule_again Serial = refl
-rule_again Snapshot = refl
-rule_again Commute = refl
 
 pub rule_lacks : (byte : ℕ) (r : Rule) → byte < 48 → lacks byte (rule_text r) ≡ true
 rule_lacks byte Serial low = name_bytes_lack byte (codes "serial") low refl

@@ -1,4 +1,3 @@
-pub mod Appends
 pub mod Texts
 pub mod Versions
 pub mod Lines

@@ -26,7 +26,8 @@ use Rattle.trace_text.specs.declared.items.TraceItem.{TraceItem}
 use Rattle.trace_text.specs.declared.items.TraceItem.TheVariants as items
 use Rattle.trace_text.specs.declared.reader.Stage.{Stage}
 use Rattle.trace_text.specs.declared.reader.Stage.TheVariants.{Start, Begun, Event, Messages, Ordered, Ended}
-use Rattle.trace_text.specs.Texts.{rule_text, result_text, note_text, kind_text, order_text}
+use Rattle.tcs_terms.specs.Texts.{rule_text}
+use Rattle.trace_text.specs.Texts.{result_text, note_text, kind_text, order_text}
 use Rattle.trace_text.specs.Versions.{message_fits}
 
 -- A line of a trace. A message has its number, its sender, its receiver and its frame.

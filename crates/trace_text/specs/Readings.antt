@@ -23,7 +23,8 @@ use Rattle.trace_text.specs.declared.items.TraceFault.TheVariants.{Bad, OutOfMem
 use Rattle.trace_text.specs.Texts.{kind_text}
 use Rattle.trace_text.specs.Versions.{message_fits}
 use Rattle.trace_text.specs.Lines.{Line, HeadLine, EventLine, NoteLine, MessageLine, OrderLine, EndLine, line_text, Standing, MayStand, is_start, is_within, is_event, has_event, is_ordered, after, item_of}
-use Rattle.trace_text.specs.Words.{◌>>=◌, first_word, is_word, number_within, next_number, txn_in, rule_in, name_in, bytes_in, each_txn}
+use Rattle.tcs_terms.specs.Texts.{rule_in}
+use Rattle.trace_text.specs.Words.{◌>>=◌, first_word, is_word, number_within, next_number, txn_in, name_in, bytes_in, each_txn}
 
 -- ---- results
 

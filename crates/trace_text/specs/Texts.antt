@@ -12,18 +12,8 @@ use Rattle.tcs_terms.specs.declared.inputs.Result1.{Result1}
 use Rattle.tcs_terms.specs.declared.inputs.Result1.TheVariants as results
 use Rattle.tcs_terms.specs.declared.inputs.Note.{Note}
 use Rattle.tcs_terms.specs.declared.inputs.Note.TheVariants as notes
-use Rattle.tcs_terms.specs.declared.setups.Rule.{Rule}
-use Rattle.tcs_terms.specs.declared.setups.Rule.TheVariants.{Serial, Snapshot, Commute}
 use Rattle.tcs_terms.specs.PayloadText.{payload_text, value_text}
-
-abbrev pub rule_text : Rule → List ℕ
-rule_text Serial = codes "serial"
-rule_text Snapshot = codes "snapshot"
-rule_text Commute = codes "commute"
-
--- a transaction: its home, a dot, its number
-abbrev pub txn_text : TxId → List ℕ
-txn_text t = decimal t.home ++ codes "." ++ decimal t.seq
+use Rattle.tcs_terms.specs.Texts.{txn_text}
 
 abbrev pub handled_text : Handled → List ℕ
 handled_text handled.Acted = codes "acted"

@@ -5,8 +5,6 @@ use Rattle.std.specs.Result.{result_ok}
 use Rattle.hex.specs.Hex.{decode_of}
 use Rattle.tcs_terms.specs.declared.limits.TheConstants.{MAX_NODES, MAX_SEQUENCE}
 use Rattle.tcs_terms.specs.declared.ids.TxId.{TxId}
-use Rattle.tcs_terms.specs.declared.setups.Rule.{Rule}
-use Rattle.tcs_terms.specs.declared.setups.Rule.TheVariants.{Serial, Snapshot, Commute}
 use Rattle.tcs_terms.specs.ObjectFaults.{name_fault}
 use Rattle.tcs_terms.specs.Payloads.{same_name}
 use Rattle.tcs_terms.specs.PayloadWords.{number_in, is_lower_digit}
@@ -52,13 +50,6 @@ txn_in text = do
   home ← number_within 1 MAX_NODES parts.0
   seq ← number_within 1 MAX_SEQUENCE parts.1
   Some (record { home = home; seq = seq })
-
-unfoldable pub rule_in : List ℕ → Option Rule
-rule_in text =
-    if is_word (codes "serial") text then Some Serial
-    else if is_word (codes "snapshot") text then Some Snapshot
-    else if is_word (codes "commute") text then Some Commute
-    else None
 
 -- a name
 unfoldable pub name_in : List ℕ → Option (List ℕ)

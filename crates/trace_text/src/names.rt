@@ -1,18 +1,6 @@
-//! The names of rules and of kinds of messages.
+//! The names of kinds of messages.
 ghost use Rattle.std.specs.Prelude.{◌≡◌};
-ghost use Rattle.trace_text.specs.Texts.{kind_text, rule_text};
-
-use tcs_terms::Rule;
-
-pub(crate) fn rule_name(rule: Rule) -> &'static [u8]
-    ensures { result.now ≡ rule_text rule }
-{
-    match rule {
-        Rule::Serial => b"serial",
-        Rule::Snapshot => b"snapshot",
-        Rule::Commute => b"commute",
-    }
-}
+ghost use Rattle.trace_text.specs.Texts.{kind_text};
 
 pub(crate) fn kind_name(kind: u8) -> &'static [u8]
     ensures { result.now ≡ kind_text kind }

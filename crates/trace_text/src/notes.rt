@@ -5,9 +5,9 @@ ghost use Rattle.tcs_terms.specs.PayloadWords.{reading};
 ghost use Rattle.trace_text.specs.Readings.{begin_in, take_in, read_in, decide_in, note_in};
 
 use crate::decisions::decision_in;
-use crate::words::{cut, name_in, number_in, txn_in, value_in};
+use crate::words::{cut, name_in, txn_in, value_in};
 use std::alloc::Global;
-use tcs_terms::{Note, OutOfMemory, Payload, WordFault, read_payload};
+use tcs_terms::{Note, OutOfMemory, Payload, WordFault, read_number, read_payload};
 
 /// The payload that a text writes.
 fn payload_in(alloc: Global, text: &[u8], version: u8) -> Result<Option<Payload>, OutOfMemory>
@@ -59,7 +59,7 @@ fn read_in(alloc: Global, text: &[u8]) -> Result<Option<Note>, OutOfMemory>
     let Some(name) = name_in(alloc, word)? else {
         return Ok(None);
     };
-    let Some(version) = number_in(version) else {
+    let Some(version) = read_number(version) else {
         return Ok(None);
     };
     match value_in(alloc, value)? {

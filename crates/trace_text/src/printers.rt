@@ -3,15 +3,15 @@ ghost use Rattle.std.specs.Prelude.{◌≡◌, ◌++◌, ◌&&◌, nat_le, codes
 ghost use Rattle.std.specs.List.{flat_map};
 ghost use Rattle.hex.specs.Hex.{encode_lower};
 ghost use Rattle.tcs_terms.specs.declared.limits.TheConstants.{MAX_KIND};
-ghost use Rattle.trace_text.specs.Appends.{Begins};
+ghost use Rattle.tcs_terms.specs.Texts.{Begins};
 ghost use Rattle.trace_text.specs.Texts.{result_text, note_text, kind_text};
 ghost use Rattle.trace_text.specs.Lines.{HeadLine, EventLine, NoteLine, MessageLine, OrderLine, EndLine, printed};
 
-use crate::names::{kind_name, rule_name};
+use crate::names::kind_name;
 use crate::printing::{
-    put, put_decision, put_field, put_handled, put_hex, put_number, put_order, put_txn, put_value,
+    put, put_decision, put_field, put_handled, put_hex, put_number, put_order, put_value,
 };
-use tcs_terms::{NodeId, Note, OutOfMemory, Result1, Setup, TxId, print_payload};
+use tcs_terms::{NodeId, Note, OutOfMemory, Result1, Setup, TxId, print_payload, print_txn};
 
 /// The first line: the version, the rule and the number of shards.
 pub fn print_head(setup: &Setup, out: &mut Vec<u8>) -> Result<(), OutOfMemory>
@@ -21,7 +21,7 @@ pub fn print_head(setup: &Setup, out: &mut Vec<u8>) -> Result<(), OutOfMemory>
     put(out, b"trace")?;
     put_field(out, u64::from(setup.version()))?;
     put(out, b" ")?;
-    put(out, rule_name(setup.rule()))?;
+    put(out, setup.rule().word().as_bytes())?;
     put_field(out, u64::from(setup.shards()))?;
     put(out, b"\n")
 }
@@ -45,13 +45,13 @@ fn put_note(note: &Note, out: &mut Vec<u8>) -> Result<(), OutOfMemory>
     match note {
         Note::Begin { txn, payload } => {
             put(out, b"begin ")?;
-            put_txn(out, *txn)?;
+            print_txn(*txn, out)?;
             put(out, b" ")?;
             print_payload(payload, out)
         }
         Note::Take { txn } => {
             put(out, b"take ")?;
-            put_txn(out, *txn)
+            print_txn(*txn, out)
         }
         Note::ReadValue {
             name,
@@ -67,7 +67,7 @@ fn put_note(note: &Note, out: &mut Vec<u8>) -> Result<(), OutOfMemory>
         }
         Note::Decide { txn, decision } => {
             put(out, b"decide ")?;
-            put_txn(out, *txn)?;
+            print_txn(*txn, out)?;
             put(out, b" ")?;
             put_decision(out, *decision)
         }

@@ -3,13 +3,12 @@ ghost use Rattle.std.specs.Prelude.{◌≡◌, ◌++◌, codes, decimal, OnOk, O
 ghost use Rattle.std.specs.List.{flat_map};
 ghost use Rattle.hex.specs.Hex.{encode_lower};
 ghost use Rattle.tcs_terms.specs.PayloadText.{value_text};
-ghost use Rattle.trace_text.specs.Appends.{Begins};
-ghost use Rattle.trace_text.specs.Texts.{txn_text, handled_text, cause_text, decision_text, order_text};
+ghost use Rattle.tcs_terms.specs.Texts.{Begins, txn_text};
+ghost use Rattle.trace_text.specs.Texts.{handled_text, cause_text, decision_text, order_text};
 
-use itoa::Buffer;
-use tcs_terms::{Cause, Decision, Handled, OutOfMemory, TxId};
+use tcs_terms::{Cause, Decision, Handled, OutOfMemory, TxId, print_number, print_txn};
 
-#[tactic(auto, using(crate::proofs::Appending::begins_same))]
+#[tactic(auto, using(tcs_terms::proofs::Appending::begins_same))]
 pub(crate) fn put(out: &mut Vec<u8>, text: &[u8]) -> Result<(), OutOfMemory>
     ensures ok { OnOk result (out.new.items ≡ out.old.items ++ text.now) }
     ensures err { OnErr result (Begins out.old.items out.new.items) }
@@ -17,21 +16,12 @@ pub(crate) fn put(out: &mut Vec<u8>, text: &[u8]) -> Result<(), OutOfMemory>
     Ok(out.extend_from_slice(text)?)
 }
 
+#[tactic(auto, using(tcs_terms::proofs::Appending::begins_same))]
 pub(crate) fn put_number(out: &mut Vec<u8>, number: u64) -> Result<(), OutOfMemory>
     ensures ok { OnOk result (out.new.items ≡ out.old.items ++ decimal number) }
     ensures err { OnErr result (Begins out.old.items out.new.items) }
 {
-    let mut digits = Buffer::new();
-    put(out, digits.format(number).as_bytes())
-}
-
-pub(crate) fn put_txn(out: &mut Vec<u8>, txn: TxId) -> Result<(), OutOfMemory>
-    ensures ok { OnOk result (out.new.items ≡ out.old.items ++ txn_text txn) }
-    ensures err { OnErr result (Begins out.old.items out.new.items) }
-{
-    put_number(out, u64::from(txn.home))?;
-    put(out, b".")?;
-    put_number(out, u64::from(txn.seq))
+    print_number(number, out)
 }
 
 pub(crate) fn put_handled(out: &mut Vec<u8>, handled: Handled) -> Result<(), OutOfMemory>
@@ -59,7 +49,7 @@ fn put_cause(out: &mut Vec<u8>, cause: Cause) -> Result<(), OutOfMemory>
     match cause {
         Cause::Clash(txn) => {
             put(out, b"clash ")?;
-            put_txn(out, txn)
+            print_txn(txn, out)
         }
         Cause::Lost => put(out, b"lost"),
     }
@@ -114,7 +104,7 @@ fn put_next(out: &mut Vec<u8>, txn: TxId) -> Result<(), OutOfMemory>
     ensures err { OnErr result (Begins out.old.items out.new.items) }
 {
     put(out, b" ")?;
-    put_txn(out, txn)
+    print_txn(txn, out)
 }
 
 fn put_more(out: &mut Vec<u8>, order: &[TxId]) -> Result<(), OutOfMemory>
@@ -137,7 +127,7 @@ pub(crate) fn put_order(out: &mut Vec<u8>, order: &[TxId]) -> Result<(), OutOfMe
     match order {
         [] => put(out, b"-"),
         [first, others @ ..] => {
-            put_txn(out, *first)?;
+            print_txn(*first, out)?;
             put_more(out, others)
         }
     }

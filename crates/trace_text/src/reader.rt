@@ -8,11 +8,11 @@ use crate::frames::frame_in;
 use crate::items::{TraceFault, TraceItem, TxList};
 use crate::notes::note_in;
 use crate::results::result_in;
-use crate::words::{cut, next_number, number_in, number_within, order_in, rule_in};
+use crate::words::{cut, next_number, number_within, order_in};
 use std::alloc::Global;
 use std::marker::Model;
-use tcs_terms::OutOfMemory;
 use tcs_terms::limits::{MAX_NODES, MAX_SHARDS};
+use tcs_terms::{OutOfMemory, Rule, read_number};
 
 /// Behind which lines a reader stands.
 #[derive(Clone, Copy, Debug, PartialEq, Eq)]
@@ -226,7 +226,7 @@ impl TraceReader {
         let (version, rest) = cut(text, b' ')?;
         let (rule, shards) = cut(rest, b' ')?;
         let version = number_within(version, 1, 2)? as u8;
-        let rule = rule_in(rule)?;
+        let rule = Rule::named(rule)?;
         let shards = number_within(shards, 1, u64::from(MAX_SHARDS))? as u8;
         self.stage = Stage::Begun;
         self.version = version;
@@ -302,8 +302,8 @@ impl TraceReader {
         ensures { Takes self.old self.new result (end_of self.old text.now) }
     {
         let (events, messages) = cut(text, b' ')?;
-        let events = number_in(events)?;
-        let messages = number_in(messages)?;
+        let events = read_number(events)?;
+        let messages = read_number(messages)?;
         if events == self.events && messages == self.messages {
             self.stage = Stage::Ended;
             Some(TraceItem::End)

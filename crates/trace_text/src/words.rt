@@ -1,17 +1,16 @@
 //! The words of a line.
 ghost use Rattle.std.specs.Prelude.{◌≡◌, ◌≤◌, ◌==◌, ◌++◌, position, length, IfSome, IfOk, Some};
 ghost use Rattle.std.specs.List.{list_all};
-ghost use Rattle.std.specs.Char.{is_ascii_digit};
 ghost use Rattle.std.specs.Option.{option_map};
-ghost use Rattle.tcs_terms.specs.PayloadWords.{number_in, is_numeral, is_lower_digit, value_in};
+ghost use Rattle.tcs_terms.specs.PayloadWords.{is_lower_digit, value_in};
 ghost use Rattle.tcs_terms.specs.Words.{words_of};
 ghost use Rattle.trace_text.specs.Readings.{order_in};
-ghost use Rattle.trace_text.specs.Words.{cut, number_within, next_number, txn_in, rule_in, name_in, bytes_in, each_txn};
+ghost use Rattle.trace_text.specs.Words.{cut, number_within, next_number, txn_in, name_in, bytes_in, each_txn};
 
 use hex::FromHexError;
 use std::alloc::Global;
 use tcs_terms::limits::{MAX_NODES, MAX_SEQUENCE, MAX_VALUE};
-use tcs_terms::{Name, NameFault, OutOfMemory, Rule, TxId, Value, ValueFault};
+use tcs_terms::{Name, NameFault, OutOfMemory, TxId, Value, ValueFault, read_number};
 
 /// The place of the first of these bytes.
 fn place_of(text: &[u8], wanted: u8) -> Option<usize>
@@ -29,39 +28,13 @@ pub(crate) fn cut(text: &[u8], byte: u8) -> Option<(&[u8], &[u8])>
     Some((&text[..place], &text[place + 1..]))
 }
 
-fn are_digits(word: &[u8]) -> bool
-    ensures { result ≡ list_all is_ascii_digit word.now }
-{
-    word.iter().all(|byte| byte.is_ascii_digit())
-}
-
-/// Whether a word has the form of a number: digits without a leading zero.
-fn is_numeral(word: &[u8]) -> bool
-    ensures { result ≡ is_numeral word.now }
-{
-    !word.is_empty() && (word[0] != b'0' || word.len() == 1) && are_digits(word)
-}
-
-/// The number that a word writes, at most 18,446,744,073,709,551,615.
-pub(crate) fn number_in(word: &[u8]) -> Option<u64>
-    ensures { result ≡ number_in word.now }
-{
-    if !is_numeral(word) {
-        return None;
-    }
-    let Ok(text) = str::from_utf8(word) else {
-        return None;
-    };
-    text.parse().ok()
-}
-
 /// A number in this range.
 #[tactic(auto, unfolding(crate::specs::Words::number_within))]
 pub(crate) fn number_within(word: &[u8], low: u64, high: u64) -> Option<u64>
     ensures value { result ≡ number_within low high word.now }
     ensures range { IfSome result (λ n. (low ≤ n) × (n ≤ high)) }
 {
-    let number = number_in(word)?;
+    let number = read_number(word)?;
     if low <= number && number <= high {
         Some(number)
     } else {
@@ -74,7 +47,7 @@ pub(crate) fn number_within(word: &[u8], low: u64, high: u64) -> Option<u64>
 pub(crate) fn next_number(word: &[u8], count: u64) -> Option<u64>
     ensures { result ≡ next_number count word.now }
 {
-    let number = number_in(word)?;
+    let number = read_number(word)?;
     if count < number && number - count == 1 {
         Some(number)
     } else {
@@ -94,22 +67,6 @@ pub(crate) fn txn_in(text: &[u8]) -> Option<TxId>
         home: home as u8,
         seq: seq as u32,
     })
-}
-
-/// The rule of this name.
-#[tactic(auto, unfolding(crate::specs::Words::rule_in))]
-pub(crate) fn rule_in(word: &[u8]) -> Option<Rule>
-    ensures { result ≡ rule_in word.now }
-{
-    if word == b"serial".as_slice() {
-        Some(Rule::Serial)
-    } else if word == b"snapshot".as_slice() {
-        Some(Rule::Snapshot)
-    } else if word == b"commute".as_slice() {
-        Some(Rule::Commute)
-    } else {
-        None
-    }
 }
 
 /// The name of an object.

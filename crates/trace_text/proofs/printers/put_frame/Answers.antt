@@ -1,4 +1,4 @@
-use Rattle.trace_text.proofs.Appending.{err_behind}
+use Rattle.tcs_terms.proofs.Appending.{err_behind}
 use Rattle.trace_text.proofs.printers.put_frame.Goals as goal
 
 pub returns-clause-err : goal.returns-clause-err

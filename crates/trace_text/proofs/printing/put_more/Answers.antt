@@ -1,4 +1,4 @@
-use Rattle.trace_text.proofs.Appending.{begins_behind}
+use Rattle.tcs_terms.proofs.Appending.{begins_behind}
 use Rattle.trace_text.proofs.printing.put_more.Goals as goal
 
 pub returns-in-Err-clause-err : goal.returns-in-Err-clause-err

@@ -1,6 +1,6 @@
 use Rattle.std.proofs.Common.{sym, ◌∙◌}
 use Rattle.tcs_terms.proofs.NumberLaws.{numeral_is_text, parsed}
-use Rattle.trace_text.proofs.words.number_in.Goals as goal
+use Rattle.tcs_terms.proofs.texts.read_number.Goals as goal
 
 pub returns-in_default : goal.returns-in_default
 returns-in_default c = absurd (c.in_default.ensures.cases.0 (numeral_is_text c.args.word.now (sym c.if-not-is_numeral.ensures)))

@@ -1,0 +1,29 @@
+-- Numbers, transactions and rules in a text, and what a buffer holds where memory ran out while text was appended.
+use Rattle.std.specs.Prelude.{◌≡◌, ℕ, List, ◌++◌, if◌then◌else◌, codes, decimal, Option, Some, None}
+use Rattle.tcs_terms.specs.declared.ids.TxId.{TxId}
+use Rattle.tcs_terms.specs.declared.setups.Rule.{Rule}
+use Rattle.tcs_terms.specs.declared.setups.Rule.TheVariants as rules
+use Rattle.tcs_terms.specs.Payloads.{same_name}
+
+-- these bytes, and maybe more behind them
+pub record Begins (front all : List ℕ) : Type 0 where
+  pub more : List ℕ
+  pub whole : all ≡ front ++ more
+
+-- a transaction: the node that made it, a dot, its number there
+abbrev pub txn_text : TxId → List ℕ
+txn_text t = decimal t.home ++ codes "." ++ decimal t.seq
+
+-- the word of a rule
+abbrev pub rule_text : Rule → List ℕ
+rule_text rules.Serial = codes "serial"
+rule_text rules.Snapshot = codes "snapshot"
+rule_text rules.Commute = codes "commute"
+
+-- the rule that a word names
+unfoldable pub rule_in : List ℕ → Option Rule
+rule_in word =
+    if same_name word (codes "serial") then Some rules.Serial
+    else if same_name word (codes "snapshot") then Some rules.Snapshot
+    else if same_name word (codes "commute") then Some rules.Commute
+    else None
