@@ -9,6 +9,7 @@ use Rattle.tcs_terms.specs.ConfigFaults.{config_fault}
 use Rattle.tcs_terms.specs.Payloads.{same_name}
 use Rattle.tcs_terms.specs.Places.{Membership}
 use Rattle.tcs_terms.specs.SetupFaults.{setup_fault}
+use Rattle.tcs_terms.specs.Texts.{rule_in}
 use Rattle.tcs_terms.specs.Setups.{Deployment}
 use Rattle.tcs_terms.specs.Words.{begins, after}
 use Rattle.schedule_text.specs.declared.places.Place.{Place}

@@ -6,6 +6,7 @@ pub mod ReaderLemmas
 pub mod ReaderSteps
 pub mod EventLines
 pub mod TraceLemmas
+pub mod FrameKinds
 pub mod ReplaySteps
 pub mod ReplayPlaces
 pub mod LineBytes

@@ -9,10 +9,11 @@ ghost use Rattle.tcs.specs.World.{LIMIT, after, happening};
 ghost use Rattle.tcs.specs.Trace.{happening_lines};
 
 use crate::schedule::{LineFault, LineItem, LineReader};
-use crate::trace::{print_happening, print_messages};
+use crate::trace::print_messages;
 use crate::world::{Stop, World};
 use std::alloc::{AllocError, Global};
 use tcs_terms::{Event, OutOfMemory};
+use trace_text::print_happening;
 
 /// Why a line was not taken.
 #[derive(Clone, Copy, Debug, PartialEq, Eq)]

@@ -10,12 +10,12 @@ use crate::order::commit_order;
 use crate::replay::{Refusal, take_line};
 use crate::replayer::{ReplayStop, Replayer};
 use crate::schedule::LineReader;
-use crate::trace::print_tail;
 use crate::world::World;
 use schedule_text::{Got, Lines, LinesStop};
 use std::alloc::Global;
 use tcs_io::{Sink, SinkStop, Source, write_all};
 use tcs_terms::OutOfMemory;
+use trace_text::print_tail;
 
 /// Reads a schedule, and writes the trace of its run.
 ///

@@ -12,7 +12,7 @@ pub record Begins (front all : List ℕ) : Type 0 where
 
 -- a transaction: the node that made it, a dot, its number there
 abbrev pub txn_text : TxId → List ℕ
-txn_text t = decimal t.home ++ codes "." ++ decimal t.seq
+txn_text t = decimal t.home ++ (codes "." ++ decimal t.seq)
 
 -- the word of a rule
 abbrev pub rule_text : Rule → List ℕ

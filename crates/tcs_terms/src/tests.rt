@@ -3,8 +3,8 @@
 use crate::{
     BadConfig, BadPayload, BadSetup, Config, Entry, Event, Input, Mark, Message, Name, NameFault,
     Note, Outgoing, Payload, RangePart, ReadPart, Reason, Row, Rows, RowsFault, Rule, Setup,
-    ShardSet, TxId, Value, ValueFault, Vote, Wanted, WordFault, WritePart, print_payload,
-    read_payload, shard_of,
+    ShardSet, TxId, Value, ValueFault, Vote, Wanted, WordFault, WritePart, is_numeral,
+    print_number, print_payload, print_txn, read_number, read_payload, shard_of,
 };
 use std::alloc::Global;
 use std::test::Fail;
@@ -152,6 +152,22 @@ fn printed_as_read(rt: HostRuntime) -> Result<(), Fail> {
         print_payload(&payload, &mut out)?;
         assert_eq!(rt; out.as_slice(), text.as_bytes());
     }
+    Ok(())
+}
+
+#[test]
+fn numbers_and_rules(rt: HostRuntime) -> Result<(), Fail> {
+    let mut text = b"take ".to_vec(rt.alloc())?;
+    print_txn(TxId { home: 3, seq: 12 }, &mut text)?;
+    print_number(u64::MAX, &mut text)?;
+    assert_eq!(rt; text.as_slice(), b"take 3.1218446744073709551615".as_slice());
+    assert_eq!(rt; read_number(b"18446744073709551615"), Some(u64::MAX));
+    assert_eq!(rt; read_number(b"18446744073709551616"), None);
+    assert!(rt; is_numeral(b"18446744073709551616") && !is_numeral(b"01"));
+    for rule in [Rule::Serial, Rule::Snapshot, Rule::Commute] {
+        assert_eq!(rt; Rule::named(rule.word().as_bytes()), Some(rule));
+    }
+    assert_eq!(rt; Rule::named(b"serializable"), None);
     Ok(())
 }
 

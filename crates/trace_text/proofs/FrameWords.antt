@@ -11,7 +11,7 @@ use Rattle.tcs_terms.proofs.BoolLaws.{left_of, right_of}
 use Rattle.wire_frame.specs.declared.faults.Fault.{Fault}
 use Rattle.wire_frame.specs.Spelling.{kind_of, spell}
 use Rattle.wire_frame.specs.Frames.{read_frame}
-use Rattle.wire_frame.proofs.FrameLaws.{frame_takes, frame_again}
+use Rattle.wire_frame.proofs.FrameLaws.{kind_is, frame_takes, frame_again}
 use Rattle.trace_text.specs.Texts.{kind_text}
 use Rattle.trace_text.specs.Versions.{message_fits}
 use Rattle.trace_text.specs.Lines.{IsFrame}
@@ -25,10 +25,6 @@ use Rattle.trace_text.proofs.HexWords.{bytes_takes, bytes_again}
 -- the text of a frame behind the name of its kind
 abbrev pub frame_text : List ℕ → List ℕ
 frame_text frame = kind_text (slice_index frame 0) ++ 32 ∷ encode_lower frame
-
-kind_is : (m : Message) → slice_index (spell m) 0 ≡ kind_of m
-unfolding spell
-kind_is m = refl
 
 is_read : (r : Result Message Fault) (m : Message) → result_ok r ≡ Some m → r ≡ Ok m
 is_read (Ok n) m e = cc

@@ -20,7 +20,8 @@ use Rattle.trace_text.specs.Words.{cut, is_word, txn_in, name_in}
 use Rattle.trace_text.specs.Readings.{begin_in, take_in, read_in, decide_in, decision_in, note_in, note_of, line_of}
 use Rattle.trace_text.proofs.Steps.{bind_some, some_is, either}
 use Rattle.trace_text.proofs.Cuts.{lacks, cut_takes, cut_again}
-use Rattle.trace_text.proofs.PlainWords.{word_is, decimal_lacks, name_lacks, number_in_takes, number_in_again, txn_takes, txn_again, txn_lacks, name_takes, name_again}
+use Rattle.tcs_terms.proofs.WordReadings.{number_in_takes, number_in_again}
+use Rattle.trace_text.proofs.PlainWords.{word_is, decimal_lacks, name_lacks, txn_takes, txn_again, txn_lacks, name_takes, name_again}
 use Rattle.trace_text.proofs.DecisionWords.{decision_takes, decision_again}
 
 -- ---- payloads

@@ -85,9 +85,6 @@ next_again count n e small = rw (number_in_again n small, eq-eqb n (count + 1) e
 
 -- ---- transactions
 
-pub txn_parts : (t : TxId) → txn_text t ≡ decimal t.home ++ 46 ∷ decimal t.seq
-txn_parts t = simp append_assoc
-
 pub txn_takes : (text : List ℕ) (t : TxId) → txn_in text ≡ Some t → (text ≡ txn_text t) × (is_txn t ≡ true)
 unfolding txn_in
 txn_takes text t h =
@@ -99,7 +96,7 @@ txn_takes text t h =
     let y = within_takes 1 MAX_SEQUENCE parts.0.1 seq.0 seq.1 in
     let made : TxId = record { home = home.0; seq = seq.0 } in
     subst (λ (u : TxId). (text ≡ txn_text u) × (is_txn u ≡ true)) (some_is made t seq.2)
-    (c.whole ∙ ap (λ (v : List ℕ). v ++ 46 ∷ parts.0.1) x.spelled ∙ ap (λ (v : List ℕ). decimal home.0 ++ 46 ∷ v) y.spelled ∙ sym (txn_parts made), both (is_node home.0) (nat_le 1 seq.0 && nat_le seq.0 MAX_SEQUENCE) x.fits y.fits)
+    (c.whole ∙ ap (λ (v : List ℕ). v ++ 46 ∷ parts.0.1) x.spelled ∙ ap (λ (v : List ℕ). decimal home.0 ++ 46 ∷ v) y.spelled, both (is_node home.0) (nat_le 1 seq.0 && nat_le seq.0 MAX_SEQUENCE) x.fits y.fits)
 
 pub txn_again : (t : TxId) → is_txn t ≡ true → txn_in (txn_text t) ≡ Some t
 unfolding txn_in
@@ -108,14 +105,14 @@ txn_again t h =
     let seq = right_of (is_node t.home) (nat_le 1 t.seq && nat_le t.seq MAX_SEQUENCE) h in
     let home_small = small_within 1 MAX_NODES t.home home (omega arith) in
     let seq_small = small_within 1 MAX_SEQUENCE t.seq seq (omega arith) in
-    rw (txn_parts t, cut_again 46 (decimal t.home) (decimal t.seq) (decimal_lacks 46 t.home (omega arith) home_small), within_again 1 MAX_NODES t.home home home_small, within_again 1 MAX_SEQUENCE t.seq seq seq_small) refl
+    rw (cut_again 46 (decimal t.home) (decimal t.seq) (decimal_lacks 46 t.home (omega arith) home_small), within_again 1 MAX_NODES t.home home home_small, within_again 1 MAX_SEQUENCE t.seq seq seq_small) refl
 
 pub txn_lacks : (byte : ℕ) (t : TxId) → byte < 46 → is_txn t ≡ true → lacks byte (txn_text t) ≡ true
 txn_lacks byte t low h =
     let home = small_within 1 MAX_NODES t.home (left_of (is_node t.home) (nat_le 1 t.seq && nat_le t.seq MAX_SEQUENCE) h) (omega arith) in
     let seq = small_within 1 MAX_SEQUENCE t.seq (right_of (is_node t.home) (nat_le 1 t.seq && nat_le t.seq MAX_SEQUENCE) h) (omega arith) in
     let dot : not (46 == byte) ≡ true = grind (arith, nat_tests) in
-    ap (lacks byte) (txn_parts t) ∙ list_all-append (λ b. not (b == byte)) (decimal t.home) (46 ∷ decimal t.seq)
+    list_all-append (λ b. not (b == byte)) (decimal t.home) (46 ∷ decimal t.seq)
     ∙ both (lacks byte (decimal t.home)) (not (46 == byte) && lacks byte (decimal t.seq)) (decimal_lacks byte t.home (omega arith) home)
     (both (not (46 == byte)) (lacks byte (decimal t.seq)) dot (decimal_lacks byte t.seq (omega arith) seq))
 

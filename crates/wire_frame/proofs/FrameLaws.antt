@@ -1,6 +1,6 @@
 -- What is read is spelled so, and what is spelled so is read.
 use Rattle.std.proofs.Common.{◌≡◌, ℕ, ◌<◌, ◌≤◌, Bool, true, false, cond, eqb, List, [], ◌∷◌, ◌++◌, length, Option, Some, None, Result, Ok, Err, refl, sym, ap, subst, ◌∙◌, arith, ◌⊎◌, inl, inr}
-use Rattle.std.specs.Prelude.{IsTrue, IfOk}
+use Rattle.std.specs.Prelude.{slice_index, IsTrue, IfOk}
 use Rattle.std.proofs.lemmas.Bool.{eqb-true, eqb-false}
 use Rattle.std.proofs.lemmas.List.{append-nil, nil_from_length}
 use Rattle.tcs_terms.specs.declared.messages.Message.{Message}
@@ -76,7 +76,12 @@ body_again (OutcomeOf txn decision) rest is = kinds.outcome_again txn decision r
 body_again (Refused kind why mark) rest is = kinds.refused_again kind why mark rest is
 body_again (StatePiece config piece pieces rows) rest is = kinds.state_piece_again config piece pieces rows rest is
 
-is_kind_of : (m : Message) → IsTrue (is_kind (kind_of m))
+-- the first byte of a message's spelling is its kind
+pub kind_is : (m : Message) → slice_index (spell m) 0 ≡ kind_of m
+unfolding spell
+kind_is m = refl
+
+pub is_kind_of : (m : Message) → IsTrue (is_kind (kind_of m))
 is_kind_of (Prepare epoch txn shards payload) = refl
 is_kind_of (PrepareAck shard epoch entry) = refl
 is_kind_of (Accept epoch entry) = refl

@@ -5,16 +5,26 @@ fn show(rt: &impl Abort, out: &[u8], wanted: &str) {
     assert_eq!(rt; out, wanted.as_bytes());
 }
 
+fn setup_of(alloc: Global, version: u8, rule: Rule) -> Result<Setup, Fail> {
+    let nodes = Vec::from_slice(alloc, &[1, 1])?;
+    let members = Vec::from_slice(alloc, &[1, 2])?;
+    let mut configs = Vec::new(alloc);
+    configs.push(Config::build(1, 1, members, 1, 0)?)?;
+    Ok(Setup::build_version(version, rule, 1, nodes, configs)?)
+}
+
 #[test]
 fn head(rt: HostRuntime) -> Result<(), Fail> {
-    let nodes = Vec::from_slice(rt.alloc(), &[1, 1])?;
-    let members = Vec::from_slice(rt.alloc(), &[1, 2])?;
-    let mut configs = Vec::new(rt.alloc());
-    configs.push(Config::build(1, 1, members, 1, 0)?)?;
-    let setup = Setup::build_version(2, Rule::Snapshot, 1, nodes, configs)?;
-    let mut out = b"before ".to_vec(rt.alloc())?;
-    print_head(&setup, &mut out)?;
-    show(&rt, &out, "before trace 2 snapshot 1\n");
+    for (version, rule, wanted) in [
+        (1, Rule::Serial, "before trace 1 serial 1\n"),
+        (2, Rule::Snapshot, "before trace 2 snapshot 1\n"),
+        (2, Rule::Commute, "before trace 2 commute 1\n"),
+    ] {
+        let setup = setup_of(rt.alloc(), version, rule)?;
+        let mut out = b"before ".to_vec(rt.alloc())?;
+        print_head(&setup, &mut out)?;
+        show(&rt, &out, wanted);
+    }
     Ok(())
 }
 

@@ -1,12 +1,12 @@
 use Rattle.std.proofs.Common.{take, arith}
 use Rattle.std.specs.List.{flat_map}
 use Rattle.schedule_text.specs.Text.{node_lines, with_feed}
-use Rattle.schedule_text.proofs.PrintLemmas.{stops_keeping, one_more_node}
+use Rattle.schedule_text.proofs.PrintLemmas.{stops_behind, one_more_node}
 use Rattle.schedule_text.proofs.printing.put_nodes.Goals as goal
 
 pub returns-in_err-put_node-clause-err : goal.returns-in_err-put_node-clause-err
 returns-in_err-put_node-clause-err c =
-    stops_keeping c.from_residual.result _ c.nodes.out.items _ (flat_map with_feed (node_lines 1 (take c.nodes.shard-index c.args.nodes.now))) c.nodes.invariant.written
+    stops_behind c.from_residual.result _ (flat_map with_feed (node_lines 1 (take c.nodes.shard-index c.args.nodes.now))) c.nodes.out.items _ c.nodes.invariant.written
     c.in_err-put_node.ensures.err
 
 pub nodes-preserved : goal.nodes-preserved

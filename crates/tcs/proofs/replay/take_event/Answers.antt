@@ -3,6 +3,7 @@ use Rattle.std.proofs.lemmas.List.{drop_at, length-map}
 use Rattle.tcs.specs.Steps.{frame_of, spelled}
 use Rattle.tcs.specs.World.{WorldState, happening}
 use Rattle.tcs.proofs.WorldLemmas.{history_after, messages_after}
+use Rattle.tcs.proofs.FrameKinds.{framed}
 use Rattle.tcs.proofs.TraceLemmas.{composed}
 use Rattle.tcs.proofs.replay.take_event.Goals as goal
 use Rattle.tcs.proofs.replay.take_event.Goals.{In_ok-happening, After-len}
@@ -34,10 +35,14 @@ notes_from-requires c =
 pub overflow_sub-first : goal.overflow_sub-first
 overflow_sub-first c = omega (arith, total c)
 
-pub print_messages-requires : goal.print_messages-requires
-print_messages-requires c =
-    let d = (goal.at.print_messages-requires c).After-len in
+pub print_messages-requires-room : goal.print_messages-requires-room
+print_messages-requires-room c =
+    let d = (goal.at.print_messages-requires-room c).After-len in
     omega (arith, total d, ap length c.messages.ensures.messages, c.messages.ensures.few, c.deref.ensures.len, c.len.ensures)
+
+pub print_messages-requires-kinds : goal.print_messages-requires-kinds
+print_messages-requires-kinds c =
+    framed c.deref.result.now (happening c.args.world.now c.args.event).sends (ap (map frame_of) c.deref.ensures.value ∙ c.in_ok-happening.ensures.became.sent)
 
 pub returns-clause-text : goal.returns-clause-text
 returns-clause-text c =
@@ -52,4 +57,4 @@ returns-clause-text c =
     composed c.args.world.now c.args.event c.args.text.now.items c.print_happening.new.out.items c.print_messages.new.out.items
     (c.events-k.result + 1) _ c.in_ok-happening.happening.result c.notes_from.result.now _
     (ap (λ n. n + 1) c.events-k.ensures) c.in_ok-happening.ensures.became.result notes first frames
-    c.in_ok-print_happening.ensures c.in_ok-print_messages.ensures
+    c.in_ok-print_happening.ensures.ok c.in_ok-print_messages.ensures

@@ -1,7 +1,0 @@
-use Rattle.std.proofs.Common.{◌≡◌, ◌++◌, take, codes}
-use Rattle.std.specs.List.{flat_map}
-use Rattle.tcs.specs.Trace.{txn_text}
-use Rattle.tcs.proofs.trace.put_order.Given as goal
-
-abbrev pub invariant-loop-txn : goal.invariant-loop-txn
-invariant-loop-txn l = l.out.items ≡ l.initial.out.items ++ flat_map (λ txn. codes " " ++ txn_text txn) (take l.txn-index l.order)
