@@ -23,7 +23,12 @@ fn a_full_log_is_told(rt: HostRuntime) -> Result<(), Fail> {
     assert!(rt; sent.is_empty());
     notify(Handled::Full, 2, 1, 7, &mut sent)?;
     match sent.as_slice() {
-        [Outgoing { to, message: Message::Refused { kind, why, mark } }] => {
+        [
+            Outgoing {
+                to,
+                message: Message::Refused { kind, why, mark },
+            },
+        ] => {
             assert_eq!(rt; (*to, *kind, *why, *mark), (2, 1, Why::Full, 7));
         }
         _ => panic!(rt; "one notice"),

@@ -48,9 +48,9 @@ pub composed : (w : WorldState) (e : Event) (old first_out out : List ℕ) (k fi
     → frames ≡ map spelled (happening w e).sends
     → first_out ≡ old ++ printed (EventLine k outcome) ++ note_lines made → out ≡ first_out ++ frame_lines first frames
     → out ≡ old ++ happening_lines w (happening w e)
-composed w e old first_out out k first outcome made frames k_is outcome_is made_is first_is frames_is printed sent =
+composed w e old first_out out k first outcome made frames k_is outcome_is made_is first_is frames_is told sent =
     let a : first_out ≡ old ++ printed (EventLine (w.events + 1) (happening w e).result) ++ note_lines (happening w e).notes =
-    printed ∙ ap (λ n. old ++ printed (EventLine n outcome) ++ note_lines made) k_is
+    told ∙ ap (λ n. old ++ printed (EventLine n outcome) ++ note_lines made) k_is
     ∙ ap (λ r. old ++ printed (EventLine (w.events + 1) r) ++ note_lines made) outcome_is
     ∙ ap (λ ns. old ++ printed (EventLine (w.events + 1) (happening w e).result) ++ note_lines ns) made_is in
     let b : out ≡ first_out ++ frame_lines (length w.messages + 1) (map spelled (happening w e).sends) =

@@ -160,7 +160,10 @@ fn numbers_and_rules(rt: HostRuntime) -> Result<(), Fail> {
     let mut text = b"take ".to_vec(rt.alloc())?;
     print_txn(TxId { home: 3, seq: 12 }, &mut text)?;
     print_number(u64::MAX, &mut text)?;
-    assert_eq!(rt; text.as_slice(), b"take 3.1218446744073709551615".as_slice());
+    assert_eq!(rt;
+        text.as_slice(),
+        b"take 3.1218446744073709551615".as_slice()
+    );
     assert_eq!(rt; read_number(b"18446744073709551615"), Some(u64::MAX));
     assert_eq!(rt; read_number(b"18446744073709551616"), None);
     assert!(rt; is_numeral(b"18446744073709551616") && !is_numeral(b"01"));

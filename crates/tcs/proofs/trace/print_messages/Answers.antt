@@ -11,4 +11,4 @@ loop-one-preserved c = (
 )
 
 pub print_message-requires : goal.print_message-requires
-print_message-requires c = rw c.deref.ensures.value (framed_at c.args.sent.now c.one-item.result c.loop-one.one-index c.args.requires.kinds c.loop-one-test.true c.one-item.is)
+print_message-requires c = rw c.deref.ensures.value (framed_at c.args.sent.now c.one-item.result c.loop-one.one-index c.requires.kinds c.loop-one-test.true c.one-item.is)
