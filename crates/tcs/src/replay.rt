@@ -6,7 +6,7 @@ ghost use Rattle.tcs.specs.Reader.{NoLine};
 ghost use Rattle.tcs.specs.Lines.{StandsAt, Advances, Passes};
 ghost use Rattle.tcs.specs.Steps.{IsStop};
 ghost use Rattle.tcs.specs.World.{LIMIT, after, happening};
-ghost use Rattle.tcs.specs.Trace.{happening_lines};
+ghost use Rattle.tcs.specs.Trace.{head_line, happening_lines};
 
 use crate::schedule::{LineFault, LineItem, LineReader};
 use crate::trace::print_messages;
@@ -64,7 +64,7 @@ pub fn take_line(
     text.clear();
     match reader.take(alloc, line) {
         Ok(LineItem::Header) => Ok(()),
-        Ok(LineItem::Begun) => Ok(text.extend_from_slice(b"trace 1 serial 1\n")?),
+        Ok(LineItem::Begun) => Ok(put_head(text)?),
         Ok(LineItem::Event(event)) => match take_event(alloc, world, event, text) {
             Ok(()) => Ok(()),
             Err(Stop::SoupFull(sum)) => Err(Refusal::Full(sum)),
@@ -74,6 +74,13 @@ pub fn take_line(
         Err(LineFault::Bad) => Err(Refusal::Bad),
         Err(LineFault::OutOfMemory) => Err(Refusal::OutOfMemory),
     }
+}
+
+/// Appends the first line of a trace, which is the same for all runs of the small system.
+fn put_head(text: &mut Vec<u8>) -> Result<(), OutOfMemory>
+    ensures { OnOk result (text.new.items ≡ text.old.items ++ head_line) }
+{
+    Ok(text.extend_from_slice(b"trace 1 serial 1\n")?)
 }
 
 /// Takes an event, and writes its lines at the end of the text.

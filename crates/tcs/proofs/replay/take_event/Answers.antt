@@ -35,13 +35,13 @@ notes_from-requires c =
 pub overflow_sub-first : goal.overflow_sub-first
 overflow_sub-first c = omega (arith, total c)
 
-pub print_messages-requires-room : goal.print_messages-requires-room
-print_messages-requires-room c =
-    let d = (goal.at.print_messages-requires-room c).After-len in
+pub print_messages-requires-clause-room : goal.print_messages-requires-clause-room
+print_messages-requires-clause-room c =
+    let d = (goal.at.print_messages-requires-clause-room c).After-len in
     omega (arith, total d, ap length c.messages.ensures.messages, c.messages.ensures.few, c.deref.ensures.len, c.len.ensures)
 
-pub print_messages-requires-kinds : goal.print_messages-requires-kinds
-print_messages-requires-kinds c =
+pub print_messages-requires-clause-kinds : goal.print_messages-requires-clause-kinds
+print_messages-requires-clause-kinds c =
     framed c.deref.result.now (happening c.args.world.now c.args.event).sends (ap (map frame_of) c.deref.ensures.value ∙ c.in_ok-happening.ensures.became.sent)
 
 pub returns-clause-text : goal.returns-clause-text
