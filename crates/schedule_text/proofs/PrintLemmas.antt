@@ -3,7 +3,7 @@ use Rattle.std.proofs.Common.{◌≡◌, ℕ, ◌+◌, ◌<◌, List, [], ◌∷
 use Rattle.std.specs.List.{flat_map}
 use Rattle.std.proofs.lemmas.List.{append-nil, take_more, length-take-le}
 use Rattle.std.proofs.lemmas.List.Concat.{flat_map-append}
-use Rattle.tcs_terms.specs.Texts.{Begins}
+use Rattle.tcs_terms.specs.Appends.{Begins}
 use Rattle.tcs_terms.proofs.Appending.{begins_behind}
 use Rattle.schedule_text.specs.Text.{node_line, node_lines, with_feed}
 

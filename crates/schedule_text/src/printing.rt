@@ -3,7 +3,7 @@ ghost use Rattle.std.specs.Prelude.{◌≡◌, ◌≤◌, ◌++◌, ◌∷◌, [
 ghost use Rattle.std.specs.List.{flat_map};
 ghost use Rattle.tcs_terms.specs.declared.limits.TheConstants.{MAX_NODES};
 ghost use Rattle.tcs_terms.specs.PayloadText.{payload_text};
-ghost use Rattle.tcs_terms.specs.Texts.{Begins};
+ghost use Rattle.tcs_terms.specs.Appends.{Begins};
 ghost use Rattle.schedule_text.specs.Text.{spaced_number, numbers_text, version_line, certifier_line, shards_line, node_line, node_lines, config_line, first_lines, setup_lines, call_line, event_line, with_feed};
 
 use tcs_terms::{

@@ -15,5 +15,6 @@ pub mod Events
 pub mod PayloadText
 pub mod Words
 pub mod Texts
+pub mod Appends
 pub mod PayloadWords
 pub mod Shards

@@ -1,14 +1,9 @@
--- Numbers, transactions and rules in a text, and what a buffer holds where memory ran out while text was appended.
-use Rattle.std.specs.Prelude.{◌≡◌, ℕ, List, ◌++◌, if◌then◌else◌, codes, decimal, Option, Some, None}
+-- Numbers, transactions and rules in a text.
+use Rattle.std.specs.Prelude.{ℕ, List, ◌++◌, if◌then◌else◌, codes, decimal, Option, Some, None}
 use Rattle.tcs_terms.specs.declared.ids.TxId.{TxId}
 use Rattle.tcs_terms.specs.declared.setups.Rule.{Rule}
 use Rattle.tcs_terms.specs.declared.setups.Rule.TheVariants as rules
 use Rattle.tcs_terms.specs.Payloads.{same_name}
-
--- these bytes, and maybe more behind them
-pub record Begins (front all : List ℕ) : Type 0 where
-  pub more : List ℕ
-  pub whole : all ≡ front ++ more
 
 -- a transaction: the node that made it, a dot, its number there
 abbrev pub txn_text : TxId → List ℕ

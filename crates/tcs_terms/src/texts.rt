@@ -3,7 +3,8 @@ ghost use Rattle.std.specs.Prelude.{◌≡◌, ◌++◌, decimal, OnOk, OnErr};
 ghost use Rattle.std.specs.Char.{is_ascii_digit};
 ghost use Rattle.std.specs.List.{list_all};
 ghost use Rattle.tcs_terms.specs.PayloadWords.{is_numeral, number_in};
-ghost use Rattle.tcs_terms.specs.Texts.{Begins, txn_text, rule_text, rule_in};
+ghost use Rattle.tcs_terms.specs.Appends.{Begins};
+ghost use Rattle.tcs_terms.specs.Texts.{txn_text, rule_text, rule_in};
 
 use crate::ids::TxId;
 use crate::memory::OutOfMemory;

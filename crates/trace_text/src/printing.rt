@@ -3,7 +3,8 @@ ghost use Rattle.std.specs.Prelude.{◌≡◌, ◌++◌, codes, decimal, OnOk, O
 ghost use Rattle.std.specs.List.{flat_map};
 ghost use Rattle.hex.specs.Hex.{encode_lower};
 ghost use Rattle.tcs_terms.specs.PayloadText.{value_text};
-ghost use Rattle.tcs_terms.specs.Texts.{Begins, txn_text};
+ghost use Rattle.tcs_terms.specs.Appends.{Begins};
+ghost use Rattle.tcs_terms.specs.Texts.{txn_text};
 ghost use Rattle.trace_text.specs.Texts.{handled_text, cause_text, decision_text, order_text};
 
 use tcs_terms::{Cause, Decision, Handled, OutOfMemory, TxId, print_number, print_txn};
