@@ -1,6 +1,6 @@
 -- What is kept of an object is what is read of it.
-use Rattle.std.proofs.Common.{◌≡◌, ℕ, ◌<◌, ◌≤◌, Bool, true, false, cond, List, [], ◌∷◌, refl, sym, ap, ◌∙◌, map, inl, inr, arith}
-use Rattle.std.specs.Prelude.{◌==◌, nat_lt, Option, Some, None, find, fold}
+use Rattle.std.proofs.Common.{◌≡◌, ℕ, ◌<◌, List, [], ◌∷◌, refl, ap, ◌∙◌, map, inl, inr, arith}
+use Rattle.std.specs.Prelude.{nat_lt, Option, Some, None, find, fold}
 use Rattle.std.proofs.lemmas.Bool.{and_parts, ltb-true, cases_Bool}
 use Rattle.std.proofs.lemmas.Bool.Decides.{nat_tests}
 use Rattle.tcs_terms.specs.declared.logs.Row.{Row}
@@ -9,7 +9,7 @@ use Rattle.tcs_terms.specs.declared.logs.Mark.TheVariants.{Undecided, Committed,
 use Rattle.tcs_terms.specs.declared.payloads.WritePart.{WritePart}
 use Rattle.tcs_terms.specs.Order.{ascends}
 use Rattle.tcs_terms.specs.Payloads.{Accesses, same_name}
-use Rattle.protocol.specs.Versions.{Reading, nothing_read, newer_write, newer_part, newer_row, read_of}
+use Rattle.protocol.specs.Versions.{Reading, nothing_read, newer_write, newer_row, read_of}
 use Rattle.version_store.specs.declared.kept.Kept.{Kept}
 use Rattle.version_store.specs.declared.store.VersionStore.{VersionStore}
 use Rattle.version_store.specs.Keeping.{goes_before, better, found_write, marked_write, write_of, best_of, kept_at, SlotsAscend, StandsFor}

@@ -1,8 +1,9 @@
 -- The best write of each object, over the writes of a payload and over the rows of a log.
-use Rattle.std.proofs.Common.{◌≡◌, ℕ, Bool, true, false, cond, ◌&&◌, ◌||◌, List, [], ◌∷◌, ◌++◌, ◌⊎◌, refl, sym, ap, ◌∙◌, inl, inr, arith}
-use Rattle.std.specs.Prelude.{◌==◌, nat_lt, Option, Some, None, find, fold}
+use Rattle.std.proofs.Common.{◌≡◌, ℕ, false, List, [], ◌∷◌, ◌+◌, ◌<◌, length, take, get_or, refl, sym, ap, ◌∙◌, inl, inr, arith}
+use Rattle.std.specs.Prelude.{Option, Some, None, find, fold}
 use Rattle.std.proofs.lemmas.Bool.{cases_Bool}
-use Rattle.std.proofs.lemmas.Grind.{common_steps}
+use Rattle.std.proofs.lemmas.List.{take_more}
+use Rattle.std.proofs.lemmas.List.Sums.{fold-append}
 use Rattle.std.proofs.lemmas.Bool.Decides.{nat_tests}
 use Rattle.tcs_terms.specs.declared.logs.Row.{Row}
 use Rattle.tcs_terms.specs.declared.payloads.WritePart.{WritePart}
@@ -38,7 +39,10 @@ pub best_of_none : (name : List ℕ) → best_of [] name ≡ None
 unfolding best_of
 best_of_none name = refl
 
-pub best_of_more : (rows : List Row) (r : Row) (name : List ℕ)
-    → best_of (rows ++ r ∷ []) name ≡ better (best_of rows name) (write_of r name)
+-- one more row adds its writes
+pub best_of_more : (rows : List Row) (i : ℕ) (r : Row) → i < length rows → r ≡ get_or rows i r → (name : List ℕ)
+    → best_of (take (i + 1) rows) name ≡ better (best_of (take i rows) name) (write_of r name)
 unfolding best_of
-best_of_more rows r name = grind (arith, common_steps)
+best_of_more rows i r within is name =
+    rw (take_more rows i r within) (fold-append (λ best r. better best (write_of r name)) None (take i rows) (get_or rows i r ∷ [])
+    ∙ ap (λ x. better (best_of (take i rows) name) (write_of x name)) (sym is))

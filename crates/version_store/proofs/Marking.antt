@@ -1,16 +1,15 @@
 -- A row that is marked committed adds its writes, in whichever order the rows are marked.
-use Rattle.std.proofs.Common.{◌≡◌, ℕ, ◌<◌, ◌≢◌, zero, suc, Bool, true, false, cond, List, [], ◌∷◌, length, get_or, refl, sym, ap, ◌∙◌, subst, arith}
-use Rattle.std.specs.Prelude.{◌==◌, Option, Some, None, Contains, find, fold}
-use Rattle.std.proofs.lemmas.Bool.{cond-false, cond-true, eq-eqb, ne_eqb}
+use Rattle.std.proofs.Common.{◌≡◌, ℕ, ◌<◌, ◌≢◌, zero, suc, List, [], ◌∷◌, length, get_or, refl, sym, ap, ◌∙◌, subst, arith}
+use Rattle.std.specs.Prelude.{Option, Some, None, Contains, find, fold}
+use Rattle.std.proofs.lemmas.Bool.{eq-eqb, ne_eqb}
 use Rattle.tcs_terms.specs.declared.logs.Row.{Row}
 use Rattle.tcs_terms.specs.declared.logs.Mark.{Mark}
 use Rattle.tcs_terms.specs.declared.logs.Mark.TheVariants.{Undecided, Committed, Aborted}
 use Rattle.tcs_terms.specs.declared.payloads.WritePart.{WritePart}
 use Rattle.tcs_terms.specs.Payloads.{Accesses, same_name}
-use Rattle.protocol.specs.Log.{marked, set_mark, first_mark}
+use Rattle.protocol.specs.Log.{marked, set_mark}
 use Rattle.version_store.specs.declared.kept.Kept.{Kept}
-use Rattle.version_store.specs.declared.store.VersionStore.{VersionStore}
-use Rattle.version_store.specs.Keeping.{better, found_write, part_write, marked_write, write_of, best_of, kept_at, SlotsAscend, StandsFor}
+use Rattle.version_store.specs.Keeping.{better, found_write, part_write, marked_write, write_of, best_of, SlotsAscend}
 use Rattle.version_store.proofs.Precedence.{swapped}
 use Rattle.version_store.proofs.Slots.{AllAbove, rest_above, rest_ascends, above_at}
 

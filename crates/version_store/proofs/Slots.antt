@@ -1,5 +1,5 @@
 -- Rows whose slots ascend.
-use Rattle.std.proofs.Common.{◌≡◌, ℕ, ◌<◌, ◌≤◌, zero, suc, Bool, true, false, List, [], ◌∷◌, length, get_or, map, refl, arith}
+use Rattle.std.proofs.Common.{◌≡◌, ℕ, ◌<◌, ◌≤◌, zero, suc, true, List, [], ◌∷◌, length, get_or, map, refl, arith}
 use Rattle.std.specs.Prelude.{nat_lt}
 use Rattle.std.proofs.lemmas.Bool.{and_parts, ltb-true}
 use Rattle.tcs_terms.specs.Order.{ascends}
@@ -11,7 +11,8 @@ abbrev pub AllAbove : ℕ → List Row → Type 0
 AllAbove low [] = Unit {0}
 AllAbove low (r ∷ rs) = (low < r.entry.slot) × AllAbove low rs
 
-above_more : (low high : ℕ) → low ≤ high → (rows : List Row) → AllAbove high rows → AllAbove low rows
+-- they lie above lower ones too
+pub above_more : (low high : ℕ) → low ≤ high → (rows : List Row) → AllAbove high rows → AllAbove low rows
 above_more low high less [] above = tt
 above_more low high less (r ∷ rs) above = let first = above.0 in (omega arith, above_more low high less rs above.1)
 
