@@ -6,3 +6,6 @@ mod store;
 mod writes;
 
 pub use store::{Reading, VersionStore};
+
+#[cfg(test)]
+mod tests;
