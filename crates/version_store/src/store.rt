@@ -15,8 +15,8 @@ pub struct Reading<'a> {
 }
 
 /// Keeps of each object the committed write of greatest version among the rows of a log, the one of lowest slot among
-/// equal ones. A store stands for a list of rows, which it is told of when they are committed: see `specs/Keeping.antt`.
-/// A row that enters the log undecided need not be told.
+/// equal ones. A store stands for a list of rows: see `specs/Keeping.antt`. It is told of a row when that is committed;
+/// a row that enters the log undecided or is marked aborted changes nothing: see `proofs/Undecided.antt`.
 #[derive(Debug, Drop)]
 pub struct VersionStore {
     writes: Writes,
