@@ -3,6 +3,7 @@ use Rattle.std.proofs.Common.{◌≡◌, ℕ, true, false, cond, ◌||◌, List,
 use Rattle.std.specs.Prelude.{◌==◌, nat_lt, Option, Some, None, is_some, filter, fold}
 use Rattle.std.proofs.lemmas.Bool.{cond_both, cond-true, cond-false, cases_Bool, cases_lt, lt-ltb, eq-eqb}
 use Rattle.std.proofs.lemmas.Bool.Decides.{nat_tests}
+use Rattle.std.proofs.lemmas.List.{append-nil}
 use Rattle.std.proofs.lemmas.List.Sums.{fold-append}
 use Rattle.tcs_terms.specs.declared.logs.Row.{Row}
 use Rattle.tcs_terms.specs.declared.logs.Mark.{Mark}
@@ -23,16 +24,12 @@ best_of_undecided xs ys entry name =
     fold-append (λ best r. better best (write_of r name)) None xs (undecided entry ∷ ys)
     ∙ sym (fold-append (λ best r. better best (write_of r name)) None xs ys)
 
-append_none : (xs : List Row) → xs ++ [] ≡ xs
-append_none [] = refl
-append_none (x ∷ xs) = ap (λ ys. x ∷ ys) (append_none xs)
-
 -- what a leader appends
 pub stands_appended : (store : VersionStore) (rows : List Row) → StandsFor store rows → (entry : Preparation)
     → StandsFor store (rows ++ undecided entry ∷ [])
 stands_appended store rows stands entry = record {
   keeps = λ name. stands.keeps name
-      ∙ sym (best_of_undecided rows [] entry name ∙ ap (λ rs. best_of rs name) (append_none rows));
+      ∙ sym (best_of_undecided rows [] entry name ∙ ap (λ rs. best_of rs name) (append-nil rows));
 }
 
 none_lower : (slot : ℕ) (rows : List Row) → AllAbove slot rows → filter (λ r. nat_lt r.entry.slot slot) rows ≡ []
