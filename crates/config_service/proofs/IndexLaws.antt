@@ -1,0 +1,176 @@
+-- What an index tells, and how it grows.
+use Rattle.std.proofs.Common.{◌≡◌, ◌≢◌, ℕ, zero, suc, ◌+◌, ◌-◌, ◌<◌, Bool, true, false, ◌&&◌, cond, List, [], ◌∷◌, ◌++◌, length, map, filter, find, Option, Some, None, refl, sym, ap, ◌∙◌, arith, length-append}
+use Rattle.std.specs.Prelude.{◌==◌}
+use Rattle.std.specs.List.{slice_get, slice_set, range_with_len, last_or}
+use Rattle.std.specs.Option.{option_map, option_and_then}
+use Rattle.std.proofs.lemmas.Bool.{eqb-true}
+use Rattle.std.proofs.lemmas.Bool.Decides.{nat_tests}
+use Rattle.std.proofs.lemmas.Option.{slice_get-map, slice_get_past}
+use Rattle.std.proofs.lemmas.List.Elements.{filter-append}
+use Rattle.std.proofs.lemmas.List.{append-nil, map-append}
+use Rattle.tcs_terms.specs.Places.{Membership}
+use Rattle.config_service.specs.Index.{of_shard, place_in, last_place, places_of, IsPlaced, IsIndex}
+
+-- ---- the configuration of an epoch
+
+found_in_shard : (shard epoch : ℕ) (cs : List Membership) → find (λ c. (c.shard == shard) && (c.epoch == epoch)) cs ≡ find (λ c. c.epoch == epoch) (of_shard cs shard)
+found_in_shard shard epoch [] = refl
+found_in_shard shard epoch (c ∷ cs) = go (c.shard == shard) (found_in_shard shard epoch cs) where
+  go : (b : Bool) → find (λ x. (x.shard == shard) && (x.epoch == epoch)) cs ≡ find (λ x. x.epoch == epoch) (of_shard cs shard)
+      → cond (b && (c.epoch == epoch)) (Some c) (find (λ x. (x.shard == shard) && (x.epoch == epoch)) cs) ≡ find (λ x. x.epoch == epoch) (cond b (c ∷ of_shard cs shard) (of_shard cs shard))
+  go true e = rw e refl
+  go false e = e
+
+none_below : (e k n : ℕ) (ds : List Membership) → map (λ c. c.epoch) ds ≡ range_with_len k n → e < k → find (λ c. c.epoch == e) ds ≡ None
+none_below e k n [] h lt = refl
+none_below e k zero (d ∷ ds) h lt = absurd cc
+none_below e k (suc n) (d ∷ ds) h lt =
+    let first : d.epoch ≡ k = cc in
+    let others : map (λ c. c.epoch) ds ≡ range_with_len (k + 1) n = cc in
+    let apart : (d.epoch == e) ≡ false = grind (arith, nat_tests) in
+    rw apart (none_below e (k + 1) n ds others (omega arith))
+
+found_at : (i k n e : ℕ) (ds : List Membership) → map (λ c. c.epoch) ds ≡ range_with_len k n → e ≡ k + i → find (λ c. c.epoch == e) ds ≡ slice_get ds i
+found_at i k n e [] h at = refl
+found_at i k zero e (d ∷ ds) h at = absurd cc
+found_at zero k (suc n) e (d ∷ ds) h at =
+    let first : d.epoch ≡ k = cc in
+    let same : (d.epoch == e) ≡ true = grind (arith, nat_tests) in
+    rw same refl
+found_at (suc i) k (suc n) e (d ∷ ds) h at =
+    let first : d.epoch ≡ k = cc in
+    let others : map (λ c. c.epoch) ds ≡ range_with_len (k + 1) n = cc in
+    let apart : (d.epoch == e) ≡ false = grind (arith, nat_tests) in
+    rw apart (found_at i (k + 1) n e ds others (omega arith))
+
+joined : {A B : Type 0} (f : A → Option B) (o : Option A) (q : Option B) → option_map f o ≡ option_map (λ x. Some x) q → q ≡ option_and_then f o
+joined f None None h = refl
+joined f None (Some y) h = absurd cc
+joined f (Some x) None h = absurd cc
+joined f (Some x) (Some y) h = cc
+
+pub config_at_place : (cs : List Membership) (shard epoch : ℕ) (places : List ℕ) → IsPlaced cs shard places
+    → find (λ c. (c.shard == shard) && (c.epoch == epoch)) cs ≡ option_and_then (λ p. slice_get cs p) (place_in places epoch)
+config_at_place cs shard zero places h = found_in_shard shard zero cs ∙ none_below zero 1 (length places) (of_shard cs shard) h.epochs (omega arith)
+config_at_place cs shard (suc i) places h =
+    let at : option_map (λ p. slice_get cs p) (slice_get places i) ≡ option_map (λ c. Some c) (slice_get (of_shard cs shard) i) =
+        sym (slice_get-map (λ p. slice_get cs p) places i) ∙ ap (λ xs. slice_get xs i) h.stand ∙ slice_get-map (λ c. Some c) (of_shard cs shard) i in
+    found_in_shard shard (suc i) cs ∙ found_at i 1 (length places) (suc i) (of_shard cs shard) h.epochs (omega arith) ∙ joined (λ p. slice_get cs p) (slice_get places i) (slice_get (of_shard cs shard) i) at
+
+-- ---- the last configuration
+
+last_mapped : {A B : Type 0} (f : A → B) (o : Option A) (xs : List A) → last_or (option_map f o) (map f xs) ≡ option_map f (last_or o xs)
+last_mapped f o [] = refl
+last_mapped f o (x ∷ xs) = last_mapped f (Some x) xs
+
+last_at_end : {A : Type 0} (o : Option A) (x : A) (xs : List A) → last_or o (x ∷ xs) ≡ slice_get (x ∷ xs) (length xs)
+last_at_end o x [] = refl
+last_at_end o x (y ∷ ys) = last_at_end (Some x) y ys
+
+last_is_at_end : {A : Type 0} (xs : List A) → last_or None xs ≡ slice_get xs (length xs - 1)
+last_is_at_end [] = refl
+last_is_at_end (x ∷ xs) = let end : length (x ∷ xs) - 1 ≡ length xs = omega arith in rw end (last_at_end None x xs)
+
+pub last_config_place : (cs : List Membership) (shard : ℕ) (places : List ℕ) → IsPlaced cs shard places
+    → last_or None (of_shard cs shard) ≡ option_and_then (λ p. slice_get cs p) (last_place places)
+last_config_place cs shard places h =
+    let at : option_map (λ p. slice_get cs p) (last_or None places) ≡ option_map (λ c. Some c) (last_or None (of_shard cs shard)) =
+        sym (last_mapped (λ p. slice_get cs p) None places) ∙ ap (last_or None) h.stand ∙ last_mapped (λ c. Some c) None (of_shard cs shard) in
+    joined (λ p. slice_get cs p) (last_or None places) (last_or None (of_shard cs shard)) at ∙ ap (option_and_then (λ p. slice_get cs p)) (last_is_at_end places)
+
+-- ---- one configuration more
+
+-- what stands at a place stays there
+stays : (cs more : List Membership) (p : ℕ) (x : Membership) → slice_get cs p ≡ Some x → slice_get (cs ++ more) p ≡ Some x
+stays [] more p x h = absurd cc
+stays (c ∷ cs) more zero x h = h
+stays (c ∷ cs) more (suc p) x h = stays cs more p x h
+
+all_stay : (cs more : List Membership) (ps : List ℕ) (ds : List Membership) → map (λ p. slice_get cs p) ps ≡ map (λ c. Some c) ds
+    → map (λ p. slice_get (cs ++ more) p) ps ≡ map (λ c. Some c) ds
+all_stay cs more [] ds h = h
+all_stay cs more (p ∷ ps) [] h = absurd cc
+all_stay cs more (p ∷ ps) (d ∷ ds) h =
+    let first : slice_get cs p ≡ Some d = cc in
+    let others : map (λ q. slice_get cs q) ps ≡ map (λ c. Some c) ds = cc in
+    let here = stays cs more p d first in
+    let there = all_stay cs more ps ds others in
+    cc
+
+pub added_at : (cs : List Membership) (c : Membership) → slice_get (cs ++ c ∷ []) (length cs) ≡ Some c
+added_at [] c = refl
+added_at (x ∷ cs) c = added_at cs c
+
+pub placed_elsewhere : (cs : List Membership) (c : Membership) (shard : ℕ) (places : List ℕ) → shard ≢ c.shard → IsPlaced cs shard places → IsPlaced (cs ++ c ∷ []) shard places
+placed_elsewhere cs c shard places apart h =
+    let other : (c.shard == shard) ≡ false = grind (arith, nat_tests) in
+    let same : of_shard (cs ++ c ∷ []) shard ≡ of_shard cs shard = rw (filter-append, other) (append-nil _) in
+    record {
+      stand = rw same (all_stay cs (c ∷ []) places (of_shard cs shard) h.stand);
+      epochs = rw same h.epochs;
+    }
+
+range_more : (k n : ℕ) → range_with_len k (suc n) ≡ range_with_len k n ++ (k + n) ∷ []
+range_more k zero = ap (λ x. x ∷ []) (let same : k ≡ k + 0 = omega arith in same)
+range_more k (suc n) = ap (λ xs. k ∷ xs) (range_more (k + 1) n ∙ (let order : k + 1 + n ≡ k + suc n = omega arith in rw order refl))
+
+-- the last of epochs that follow one another
+last_epoch_is : (k n : ℕ) (o : Option Membership) (d : Membership) (ds : List Membership) → map (λ c. c.epoch) ds ≡ range_with_len k (suc n) → last_or o ds ≡ Some d → d.epoch ≡ k + n
+last_epoch_is k n o d [] h e = absurd cc
+last_epoch_is k zero o d (x ∷ []) h e =
+    let same : x ≡ d = cc in
+    let first : x.epoch ≡ k = cc in
+    rw (← same) (omega arith)
+last_epoch_is k zero o d (x ∷ y ∷ ys) h e = absurd cc
+last_epoch_is k (suc n) o d (x ∷ xs) h e =
+    let others : map (λ c. c.epoch) xs ≡ range_with_len (k + 1) (suc n) = cc in
+    omega (arith, last_epoch_is (k + 1) n (Some x) d xs others e)
+
+count_of_last : (n : ℕ) (d : Membership) (ds : List Membership) → map (λ c. c.epoch) ds ≡ range_with_len 1 n → last_or None ds ≡ Some d → d.epoch ≡ n
+count_of_last zero d [] h e = absurd cc
+count_of_last zero d (x ∷ xs) h e = absurd cc
+count_of_last (suc n) d ds h e = omega (arith, last_epoch_is 1 n None d ds h e)
+
+pub placed_next : (cs : List Membership) (c last : Membership) (places : List ℕ) → IsPlaced cs c.shard places → last_or None (of_shard cs c.shard) ≡ Some last
+    → c.epoch ≡ last.epoch + 1 → IsPlaced (cs ++ c ∷ []) c.shard (places ++ length cs ∷ [])
+placed_next cs c last places h e next =
+    let own : (c.shard == c.shard) ≡ true = grind (arith, nat_tests) in
+    let kept : of_shard (cs ++ c ∷ []) c.shard ≡ of_shard cs c.shard ++ c ∷ [] = rw (filter-append, own) refl in
+    let stood = all_stay cs (c ∷ []) places (of_shard cs c.shard) h.stand in
+    let here = added_at cs c in
+    let count = count_of_last (length places) last (of_shard cs c.shard) h.epochs e in
+    let epoch : c.epoch ≡ 1 + length places = omega arith in
+    let long : length (places ++ length cs ∷ []) ≡ suc (length places) = omega (arith, length-append places (length cs ∷ [])) in
+    record {
+      stand = rw (kept, map-append, stood, here, map-append) refl;
+      epochs = rw (kept, long, map-append, h.epochs, epoch) (sym (range_more 1 (length places)));
+    }
+
+-- ---- the index with one shard's places changed
+
+places_there : (index : List (List ℕ)) (s : ℕ) (w : List ℕ) → s < length index → places_of (slice_set index s w) s ≡ w
+places_there [] s w lt = absurd (omega arith)
+places_there (x ∷ xs) zero w lt = refl
+places_there (x ∷ xs) (suc s) w lt = places_there xs s w (omega arith)
+
+places_elsewhere : (index : List (List ℕ)) (s t : ℕ) (w : List ℕ) → t ≢ s → places_of (slice_set index s w) t ≡ places_of index t
+places_elsewhere [] s t w apart = refl
+places_elsewhere (x ∷ xs) zero zero w apart = absurd (apart refl)
+places_elsewhere (x ∷ xs) zero (suc t) w apart = refl
+places_elsewhere (x ∷ xs) (suc s) zero w apart = refl
+places_elsewhere (x ∷ xs) (suc s) (suc t) w apart = places_elsewhere xs s t w (λ e. apart (ap suc e))
+
+pub index_grows : (cs : List Membership) (c last : Membership) (index : List (List ℕ)) → IsIndex cs index → c.shard < length index
+    → last_or None (of_shard cs c.shard) ≡ Some last → c.epoch ≡ last.epoch + 1
+    → IsIndex (cs ++ c ∷ []) (slice_set index c.shard (places_of index c.shard ++ length cs ∷ []))
+index_grows cs c last index h lt e next = record { each = λ shard. go shard (shard == c.shard) refl } where
+  w : List ℕ
+  w = places_of index c.shard ++ length cs ∷ []
+
+  go : (shard : ℕ) (b : Bool) → (shard == c.shard) ≡ b → IsPlaced (cs ++ c ∷ []) shard (places_of (slice_set index c.shard w) shard)
+  go shard true same =
+      let one : shard ≡ c.shard = eqb-true shard c.shard same in
+      rw (one, places_there index c.shard w lt) (placed_next cs c last (places_of index c.shard) (h.each c.shard) e next)
+  go shard false other =
+      let apart : shard ≢ c.shard = grind (arith, nat_tests) in
+      rw (places_elsewhere index c.shard shard w apart) (placed_elsewhere cs c shard (places_of index shard) apart (h.each shard))

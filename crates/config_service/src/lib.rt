@@ -1,0 +1,8 @@
+//! The configuration service: what it stores of each shard, and what it does with a message. After the configuration
+//! service of Bravo and Gotsman (PODC 2019); its messages are this project's own.
+#![tactic(auto)]
+
+mod places;
+mod service;
+
+pub use service::ConfigService;
