@@ -1,14 +1,15 @@
 -- What an index tells, and how it grows.
-use Rattle.std.proofs.Common.{◌≡◌, ◌≢◌, ℕ, zero, suc, ◌+◌, ◌-◌, ◌<◌, Bool, true, false, ◌&&◌, cond, List, [], ◌∷◌, ◌++◌, length, map, filter, find, Option, Some, None, refl, sym, ap, ◌∙◌, arith, length-append}
+use Rattle.std.proofs.Common.{◌≡◌, ◌≢◌, ℕ, zero, suc, ◌+◌, ◌-◌, ◌<◌, ◌≤◌, ◌⊎◌, inl, inr, Bool, true, false, ◌&&◌, cond, List, [], ◌∷◌, ◌++◌, length, map, filter, find, Option, Some, None, refl, sym, ap, ◌∙◌, arith, length-append}
 use Rattle.std.specs.Prelude.{◌==◌}
 use Rattle.std.specs.List.{slice_get, slice_set, range_with_len, last_or}
 use Rattle.std.specs.Option.{option_map, option_and_then}
-use Rattle.std.proofs.lemmas.Bool.{eqb-true}
+use Rattle.std.proofs.lemmas.Bool.{eqb-true, cases_lt}
 use Rattle.std.proofs.lemmas.Bool.Decides.{nat_tests}
 use Rattle.std.proofs.lemmas.Option.{slice_get-map, slice_get_past}
 use Rattle.std.proofs.lemmas.List.Elements.{filter-append}
 use Rattle.std.proofs.lemmas.List.{append-nil, map-append}
 use Rattle.tcs_terms.specs.Places.{Membership}
+use Rattle.protocol.specs.Service.{last_config, is_next}
 use Rattle.config_service.specs.Index.{of_shard, place_in, last_place, places_of, IsPlaced, IsIndex}
 
 -- ---- the configuration of an epoch
@@ -160,7 +161,7 @@ places_elsewhere (x ∷ xs) zero (suc t) w apart = refl
 places_elsewhere (x ∷ xs) (suc s) zero w apart = refl
 places_elsewhere (x ∷ xs) (suc s) (suc t) w apart = places_elsewhere xs s t w (λ e. apart (ap suc e))
 
-pub index_grows : (cs : List Membership) (c last : Membership) (index : List (List ℕ)) → IsIndex cs index → c.shard < length index
+index_grows : (cs : List Membership) (c last : Membership) (index : List (List ℕ)) → IsIndex cs index → c.shard < length index
     → last_or None (of_shard cs c.shard) ≡ Some last → c.epoch ≡ last.epoch + 1
     → IsIndex (cs ++ c ∷ []) (slice_set index c.shard (places_of index c.shard ++ length cs ∷ []))
 index_grows cs c last index h lt e next = record { each = λ shard. go shard (shard == c.shard) refl } where
@@ -174,3 +175,32 @@ index_grows cs c last index h lt e next = record { each = λ shard. go shard (sh
   go shard false other =
       let apart : shard ≢ c.shard = grind (arith, nat_tests) in
       rw (places_elsewhere index c.shard shard w apart) (placed_elsewhere cs c shard (places_of index shard) apart (h.each shard))
+
+-- ---- the next configuration of a shard
+
+next_after : (o : Option Membership) (c : Membership) → is_next o c ≡ true → (last : Membership) × (o ≡ Some last) × (c.epoch ≡ last.epoch + 1)
+next_after None c h = absurd cc
+next_after (Some last) c h = (last, refl, eqb-true c.epoch (last.epoch + 1) h)
+
+places_past : (index : List (List ℕ)) (shard : ℕ) → length index ≤ shard → places_of index shard ≡ []
+places_past [] shard h = refl
+places_past (x ∷ xs) zero h = absurd (omega arith)
+places_past (x ∷ xs) (suc shard) h = places_past xs shard (omega arith)
+
+-- the shard of the next configuration has a place in the index
+pub next_indexed : (cs : List Membership) (c : Membership) (index : List (List ℕ)) → IsIndex cs index → is_next (last_config cs c.shard) c ≡ true → c.shard < length index
+next_indexed cs c index h next = go (cases_lt c.shard (length index)) where
+  go : (c.shard < length index) ⊎ (length index ≤ c.shard) → c.shard < length index
+  go (inl lt) = lt
+  go (inr past) =
+      let last = next_after (last_config cs c.shard) c next in
+      let none = last_config_place cs c.shard (places_of index c.shard) (h.each c.shard) ∙ ap (λ ps. option_and_then (λ p. slice_get cs p) (last_place ps)) (places_past index c.shard past) in
+      let some = last.1 in
+      absurd cc
+
+-- the index with the place of the next configuration is that of all
+pub next_stored : (cs : List Membership) (c : Membership) (index : List (List ℕ)) → IsIndex cs index → is_next (last_config cs c.shard) c ≡ true
+    → IsIndex (cs ++ c ∷ []) (slice_set index c.shard (places_of index c.shard ++ length cs ∷ []))
+next_stored cs c index h next =
+    let last = next_after (last_config cs c.shard) c next in
+    index_grows cs c last.0 index h (next_indexed cs c index h next) last.1 last.2

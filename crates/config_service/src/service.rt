@@ -1,9 +1,9 @@
 //! The configurations that are stored, and an index by shard and epoch, so that no look-up goes through all of them.
-ghost use Rattle.std.specs.Prelude.{◌≡◌, ◌<◌, ◌++◌, ◌∷◌, [], length, Some, IfOk, OnOk, OnErr, IsTrue, option_copied};
+ghost use Rattle.std.specs.Prelude.{◌≡◌, ◌<◌, ◌++◌, ◌∷◌, [], length, slice_set, IfOk, OnOk, OnErr, IsTrue, option_copied};
 ghost use Rattle.std.specs.List.{slice_get};
 ghost use Rattle.std.specs.Option.{option_and_then};
 ghost use Rattle.protocol.specs.Service.{last_config, config_at, is_next};
-ghost use Rattle.config_service.specs.Index.{last_place, place_in, places_of, first_index, IsIndex, AreFirsts};
+ghost use Rattle.config_service.specs.Index.{last_place, place_in, places_of, first_index, AreFirsts};
 
 use crate::places::Places;
 use std::alloc::Global;
@@ -66,6 +66,17 @@ impl ConfigService {
     {
         config_of(&self.configs, place_at(&self.index, shard, epoch))
     }
+
+    /// Stores the next configuration of a shard. Where memory runs out nothing is stored.
+    pub(crate) fn keep(&mut self, config: Config) -> Result<(), OutOfMemory>
+        requires { IsTrue (is_next (last_config self.old config.shard) config) }
+        ensures ok { OnOk result (self.new ≡ self.old ++ config ∷ []) }
+        ensures err { OnErr result (self.new ≡ self.old) }
+    {
+        self.configs.reserve(1)?;
+        push_place(&mut self.index, config.shard(), self.configs.len())?;
+        Ok(self.configs.push(config)?)
+    }
 }
 
 /// The index of so many first configurations of a run.
@@ -99,4 +110,13 @@ fn config_of(configs: &[Config], place: Option<usize>) -> Option<&Config>
     ensures { option_copied result ≡ option_and_then (λ p. slice_get configs.now p) place }
 {
     configs.get(place?)
+}
+
+/// Appends a place to those of a shard.
+fn push_place(index: &mut Vec<Places>, shard: ShardId, place: usize) -> Result<(), OutOfMemory>
+    requires { shard < length index.old.items }
+    ensures ok { OnOk result (index.new.items ≡ slice_set index.old.items shard (places_of index.old.items shard ++ place ∷ [])) }
+    ensures err { OnErr result (index.new.items ≡ index.old.items) }
+{
+    index[usize::from(shard)].push(place)
 }
