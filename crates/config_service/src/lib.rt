@@ -2,7 +2,10 @@
 //! service of Bravo and Gotsman (PODC 2019); its messages are this project's own.
 #![tactic(auto)]
 
+mod holding;
 mod places;
+mod sending;
 mod service;
+mod serving;
 
 pub use service::ConfigService;
