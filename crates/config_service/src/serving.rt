@@ -1,8 +1,9 @@
 //! What the service does with a message.
 ghost use Rattle.std.specs.Prelude.{◌≡◌, ◌++◌, List, IfOk, OnOk, OnErr, option_copied};
 ghost use Rattle.tcs_terms.specs.Places.{Membership};
+ghost use Rattle.tcs_terms.specs.declared.messages.Message.TheVariants.{Last, At, Cas};
 ghost use Rattle.protocol.specs.Notices.{with_notice};
-ghost use Rattle.protocol.specs.Service.{last_config, last_epoch, config_at, is_next, answer_stored, store, compare_and_set, serve};
+ghost use Rattle.protocol.specs.Service.{is_next, answer_stored, store, serve};
 
 use crate::sending::{send_stored, tell_nodes};
 use crate::service::ConfigService;
@@ -56,6 +57,7 @@ impl ConfigService {
     }
 
     /// Answers the last configuration of a shard.
+    #[tactic(auto, unfolding(protocol::specs::Service::serve))]
     fn hear_last(
         &self,
         alloc: Global,
@@ -63,14 +65,15 @@ impl ConfigService {
         shard: ShardId,
         out: &mut Vec<Outgoing>,
     ) -> Result<Handled, OutOfMemory>
-        ensures answer { IfOk result (λ h. h ≡ (with_notice from 11 0 (answer_stored self.now from 0 (last_config self.now shard))).answer) }
-        ensures kept { OnOk result (self.now ≡ (with_notice from 11 0 (answer_stored self.now from 0 (last_config self.now shard))).kept) }
-        ensures sends { OnOk result (out.new.items ≡ out.old.items ++ (with_notice from 11 0 (answer_stored self.now from 0 (last_config self.now shard))).sends) }
+        ensures answer { IfOk result (λ h. h ≡ (serve 0 self.now from (Last shard)).answer) }
+        ensures kept { OnOk result (self.now ≡ (serve 0 self.now from (Last shard)).kept) }
+        ensures sends { OnOk result (out.new.items ≡ out.old.items ++ (serve 0 self.now from (Last shard)).sends) }
     {
         answer(alloc, from, LAST, 0, self.last(shard), out)
     }
 
     /// Answers the configuration of a shard's epoch.
+    #[tactic(auto, unfolding(protocol::specs::Service::serve))]
     fn hear_at(
         &self,
         alloc: Global,
@@ -79,9 +82,9 @@ impl ConfigService {
         epoch: Epoch,
         out: &mut Vec<Outgoing>,
     ) -> Result<Handled, OutOfMemory>
-        ensures answer { IfOk result (λ h. h ≡ (with_notice from 12 0 (answer_stored self.now from (last_epoch self.now shard) (config_at self.now shard epoch))).answer) }
-        ensures kept { OnOk result (self.now ≡ (with_notice from 12 0 (answer_stored self.now from (last_epoch self.now shard) (config_at self.now shard epoch))).kept) }
-        ensures sends { OnOk result (out.new.items ≡ out.old.items ++ (with_notice from 12 0 (answer_stored self.now from (last_epoch self.now shard) (config_at self.now shard epoch))).sends) }
+        ensures answer { IfOk result (λ h. h ≡ (serve 0 self.now from (At shard epoch)).answer) }
+        ensures kept { OnOk result (self.now ≡ (serve 0 self.now from (At shard epoch)).kept) }
+        ensures sends { OnOk result (out.new.items ≡ out.old.items ++ (serve 0 self.now from (At shard epoch)).sends) }
     {
         let mark = self.last_epoch(shard);
         answer(alloc, from, AT, mark, self.at(shard, epoch), out)
@@ -89,7 +92,7 @@ impl ConfigService {
 
     /// Stores a configuration of an epoch that is not stored, where it is the next one of its shard. Where its epoch is
     /// stored, answers what was stored.
-    #[tactic(auto, unfolding(protocol::specs::Service::compare_and_set, protocol::specs::Notices::with_notice))]
+    #[tactic(auto, unfolding(protocol::specs::Service::serve, protocol::specs::Service::compare_and_set, protocol::specs::Notices::with_notice))]
     fn hear_cas(
         &mut self,
         alloc: Global,
@@ -98,9 +101,9 @@ impl ConfigService {
         config: &Config,
         out: &mut Vec<Outgoing>,
     ) -> Result<Handled, OutOfMemory>
-        ensures answer { IfOk result (λ h. h ≡ (with_notice from 13 0 (compare_and_set nodes self.old from config.now (config_at self.old config.now.shard config.now.epoch))).answer) }
-        ensures kept { OnOk result (self.new ≡ (with_notice from 13 0 (compare_and_set nodes self.old from config.now (config_at self.old config.now.shard config.now.epoch))).kept) }
-        ensures sends { OnOk result (out.new.items ≡ out.old.items ++ (with_notice from 13 0 (compare_and_set nodes self.old from config.now (config_at self.old config.now.shard config.now.epoch))).sends) }
+        ensures answer { IfOk result (λ h. h ≡ (serve nodes self.old from (Cas config.now)).answer) }
+        ensures kept { OnOk result (self.new ≡ (serve nodes self.old from (Cas config.now)).kept) }
+        ensures sends { OnOk result (out.new.items ≡ out.old.items ++ (serve nodes self.old from (Cas config.now)).sends) }
         ensures err { OnErr result (self.new ≡ self.old) }
     {
         if let Some(kept) = self.at(config.shard(), config.epoch()) {
