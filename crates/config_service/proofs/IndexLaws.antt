@@ -1,11 +1,11 @@
 -- What an index tells, and how it grows.
-use Rattle.std.proofs.Common.{◌≡◌, ◌≢◌, ℕ, zero, suc, ◌+◌, ◌-◌, ◌<◌, ◌≤◌, ◌⊎◌, inl, inr, Bool, true, false, ◌&&◌, cond, List, [], ◌∷◌, ◌++◌, length, map, filter, find, Option, Some, None, refl, sym, ap, ◌∙◌, arith, length-append}
+use Rattle.std.proofs.Common.{◌≡◌, ◌≢◌, ℕ, zero, suc, ◌+◌, ◌-◌, ◌<◌, ◌≤◌, ◌⊎◌, inl, inr, Bool, true, false, ◌&&◌, cond, List, [], ◌∷◌, ◌++◌, length, map, find, Option, Some, None, refl, sym, ap, ◌∙◌, arith, length-append}
 use Rattle.std.specs.Prelude.{◌==◌}
 use Rattle.std.specs.List.{slice_get, slice_set, range_with_len, last_or}
 use Rattle.std.specs.Option.{option_map, option_and_then}
 use Rattle.std.proofs.lemmas.Bool.{eqb-true, cases_lt}
 use Rattle.std.proofs.lemmas.Bool.Decides.{nat_tests}
-use Rattle.std.proofs.lemmas.Option.{slice_get-map, slice_get_past}
+use Rattle.std.proofs.lemmas.Option.{slice_get-map}
 use Rattle.std.proofs.lemmas.List.Elements.{filter-append}
 use Rattle.std.proofs.lemmas.List.{append-nil, map-append}
 use Rattle.tcs_terms.specs.Places.{Membership}
@@ -55,7 +55,7 @@ pub config_at_place : (cs : List Membership) (shard epoch : ℕ) (places : List 
 config_at_place cs shard zero places h = found_in_shard shard zero cs ∙ none_below zero 1 (length places) (of_shard cs shard) h.epochs (omega arith)
 config_at_place cs shard (suc i) places h =
     let at : option_map (λ p. slice_get cs p) (slice_get places i) ≡ option_map (λ c. Some c) (slice_get (of_shard cs shard) i) =
-        sym (slice_get-map (λ p. slice_get cs p) places i) ∙ ap (λ xs. slice_get xs i) h.stand ∙ slice_get-map (λ c. Some c) (of_shard cs shard) i in
+    sym (slice_get-map (λ p. slice_get cs p) places i) ∙ ap (λ xs. slice_get xs i) h.stand ∙ slice_get-map (λ c. Some c) (of_shard cs shard) i in
     found_in_shard shard (suc i) cs ∙ found_at i 1 (length places) (suc i) (of_shard cs shard) h.epochs (omega arith) ∙ joined (λ p. slice_get cs p) (slice_get places i) (slice_get (of_shard cs shard) i) at
 
 -- ---- the last configuration
@@ -76,7 +76,7 @@ pub last_config_place : (cs : List Membership) (shard : ℕ) (places : List ℕ)
     → last_or None (of_shard cs shard) ≡ option_and_then (λ p. slice_get cs p) (last_place places)
 last_config_place cs shard places h =
     let at : option_map (λ p. slice_get cs p) (last_or None places) ≡ option_map (λ c. Some c) (last_or None (of_shard cs shard)) =
-        sym (last_mapped (λ p. slice_get cs p) None places) ∙ ap (last_or None) h.stand ∙ last_mapped (λ c. Some c) None (of_shard cs shard) in
+    sym (last_mapped (λ p. slice_get cs p) None places) ∙ ap (last_or None) h.stand ∙ last_mapped (λ c. Some c) None (of_shard cs shard) in
     joined (λ p. slice_get cs p) (last_or None places) (last_or None (of_shard cs shard)) at ∙ ap (option_and_then (λ p. slice_get cs p)) (last_is_at_end places)
 
 -- ---- one configuration more

@@ -7,5 +7,7 @@ mod places;
 mod sending;
 mod service;
 mod serving;
+#[cfg(test)]
+mod tests;
 
 pub use service::ConfigService;

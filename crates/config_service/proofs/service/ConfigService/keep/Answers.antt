@@ -1,4 +1,4 @@
-use Rattle.std.proofs.Common.{◌≡◌, ◌<◌, true, length, ap, arith}
+use Rattle.std.proofs.Common.{◌≡◌, true, length, ap, arith}
 use Rattle.protocol.specs.Service.{last_config, is_next}
 use Rattle.config_service.proofs.IndexLaws.{next_indexed, next_stored}
 use Rattle.config_service.proofs.service.ConfigService.keep.Goals as goal
