@@ -1,14 +1,12 @@
 -- The index of a run's first configurations.
-use Rattle.std.proofs.Common.{◌≡◌, ℕ, zero, suc, ◌+◌, ◌<◌, true, false, ◌&&◌, List, [], ◌∷◌, length, map, Some, refl, sym, ap, ◌∙◌, arith}
+use Rattle.std.proofs.Common.{◌≡◌, ℕ, zero, suc, ◌+◌, ◌<◌, true, false, List, [], ◌∷◌, length, map, Some, refl, arith}
 use Rattle.std.specs.Prelude.{◌==◌}
 use Rattle.std.specs.List.{slice_get, range_with_len, list_all}
 use Rattle.std.proofs.lemmas.Bool.Decides.{nat_tests}
 use Rattle.tcs_terms.specs.Places.{Membership}
-use Rattle.tcs_terms.specs.Setups.{Deployment, IsDeployment, is_first, is_node_of}
-use Rattle.std.proofs.lemmas.List.{length-map}
-use Rattle.std.proofs.lemmas.Bool.{and_parts, and_from, eqb-true}
-use Rattle.std.proofs.lemmas.List.FromFn.{length-range_with_len}
-use Rattle.config_service.specs.Index.{of_shard, list_of, places_of, IsPlaced, IsIndex, AreFirsts, first_index}
+use Rattle.std.proofs.lemmas.Bool.{and_parts, eqb-true}
+use Rattle.config_service.specs.Index.{of_shard, list_of, places_of, IsPlaced, IsIndex, first_index}
+use Rattle.config_service.specs.Firsts.{AreFirsts}
 
 -- a shard below those of the configurations, whose shards are numbered from k on, has none of them
 none_of_lower : (shard k n : ℕ) (cs : List Membership) → map (λ c. c.shard) cs ≡ range_with_len k n → shard < k → of_shard cs shard ≡ []
@@ -51,17 +49,3 @@ firsts_indexed cs h = record { each = go } where
   go (suc s) =
       let placed = placed_from cs cs 0 1 s (suc s) h.one_each h.first (λ j. let same : 0 + j ≡ j = omega arith in rw same refl) (omega arith) in
       record { stand = placed.0; epochs = placed.1 }
-
--- ---- a setup has such configurations
-
-firsts_of_epoch_1 : (nodes : List ℕ) (cs : List Membership) → list_all (is_first nodes) cs ≡ true → list_all (λ c. c.epoch == 1) cs ≡ true
-firsts_of_epoch_1 nodes [] h = refl
-firsts_of_epoch_1 nodes (c ∷ cs) h =
-    let parts = and_parts (is_first nodes c) (list_all (is_first nodes) cs) h in
-    let numbers = and_parts ((c.epoch == 1) && (c.by == 0)) (list_all (is_node_of nodes c.shard) c.members) parts.0 in
-    and_from (c.epoch == 1) (list_all (λ x. x.epoch == 1) cs) (and_parts (c.epoch == 1) (c.by == 0) numbers.0).0 (firsts_of_epoch_1 nodes cs parts.1)
-
-pub firsts_of_setup : (d : Deployment) → IsDeployment d → AreFirsts d.configs
-firsts_of_setup d h =
-    let count : length d.configs ≡ d.shards = sym (length-map d.configs (λ c. c.shard)) ∙ ap length h.one_each ∙ length-range_with_len 1 d.shards in
-    record { one_each = rw count h.one_each; first = firsts_of_epoch_1 d.nodes d.configs h.first }

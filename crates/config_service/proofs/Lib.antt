@@ -1,2 +1,4 @@
-pub mod IndexLaws
-pub mod FirstIndex
+mod Lookups
+mod Growth
+mod FirstIndex
+pub mod SetupFirsts

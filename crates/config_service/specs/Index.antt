@@ -1,6 +1,6 @@
 -- Where the configurations of each shard stand in the list of all that are stored.
-use Rattle.std.specs.Prelude.{◌≡◌, ℕ, zero, suc, ◌-◌, ◌==◌, List, [], ◌∷◌, filter, map, length, IsTrue, Option, Some, None}
-use Rattle.std.specs.List.{slice_get, range_with_len, list_all}
+use Rattle.std.specs.Prelude.{◌≡◌, ℕ, zero, suc, ◌-◌, ◌==◌, List, [], ◌∷◌, filter, map, length, Option, Some, None}
+use Rattle.std.specs.List.{slice_get, range_with_len}
 use Rattle.tcs_terms.specs.Places.{Membership}
 
 -- the configurations of a shard, in the order in which they were stored
@@ -16,6 +16,7 @@ place_in places (suc n) = slice_get places n
 abbrev pub last_place : List ℕ → Option ℕ
 last_place places = slice_get places (length places - 1)
 
+-- no places where there is no list
 abbrev pub list_of : Option (List ℕ) → List ℕ
 list_of None = []
 list_of (Some places) = places
@@ -32,11 +33,6 @@ pub record IsPlaced (configs : List Membership) (shard : ℕ) (places : List ℕ
 -- an index tells the places of each shard's configurations
 pub record IsIndex (configs : List Membership) (index : List (List ℕ)) : Type 0 where
   pub each : (shard : ℕ) → IsPlaced configs shard (places_of index shard)
-
--- the first configurations of a run: one for each shard, in order, of epoch 1
-pub record AreFirsts (configs : List Membership) : Type 0 where
-  pub one_each : map (λ c. c.shard) configs ≡ range_with_len 1 (length configs)
-  pub first : IsTrue (list_all (λ c. c.epoch == 1) configs)
 
 -- the index of n first configurations
 abbrev pub first_index : ℕ → List (List ℕ)

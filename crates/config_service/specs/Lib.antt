@@ -1,2 +1,3 @@
+pub mod Firsts
 pub mod Index
 pub mod Marks

@@ -7,23 +7,23 @@ ghost use Rattle.protocol.specs.Service.{tell_nodes};
 use std::alloc::Global;
 use tcs_terms::{Config, Message, NodeId, OutOfMemory, Outgoing};
 
-/// Sends a configuration that is stored to whoever asked.
+/// Sends a configuration that is stored to the node that asked.
 pub(crate) fn send_stored(
     alloc: Global,
-    from: NodeId,
+    asker: NodeId,
     config: &Config,
     out: &mut Vec<Outgoing>,
 ) -> Result<(), OutOfMemory>
-    ensures { OnOk result (out.new.items ≡ out.old.items ++ to from (Stored config.now) ∷ []) }
+    ensures { OnOk result (out.new.items ≡ out.old.items ++ to asker (Stored config.now) ∷ []) }
 {
     let message = Message::Stored {
         config: config.copy(alloc)?,
     };
-    Ok(out.push(Outgoing { to: from, message })?)
+    Ok(out.push(Outgoing { to: asker, message })?)
 }
 
-#[tactic(auto, unfolding(protocol::specs::Service::tell_nodes))]
 /// Tells every node of a new configuration; the nodes are numbered from 1.
+#[tactic(auto, unfolding(protocol::specs::Service::tell_nodes))]
 pub(crate) fn tell_nodes(
     alloc: Global,
     nodes: NodeId,

@@ -3,7 +3,8 @@ ghost use Rattle.std.specs.Prelude.{◌≡◌, ◌<◌, ◌++◌, ◌∷◌, [],
 ghost use Rattle.std.specs.List.{slice_get};
 ghost use Rattle.std.specs.Option.{option_and_then};
 ghost use Rattle.protocol.specs.Service.{last_config, config_at, is_next};
-ghost use Rattle.config_service.specs.Index.{last_place, place_in, places_of, first_index, AreFirsts};
+ghost use Rattle.config_service.specs.Index.{last_place, place_in, places_of, first_index};
+ghost use Rattle.config_service.specs.Firsts.{AreFirsts};
 
 use crate::places::Places;
 use std::alloc::Global;
@@ -93,12 +94,14 @@ fn first_index(alloc: Global, count: usize) -> Result<Vec<Places>, OutOfMemory>
     Ok(index)
 }
 
+/// The place of a shard's last configuration.
 fn last_place(index: &[Places], shard: ShardId) -> Option<usize>
     ensures { result ≡ last_place (places_of index.now shard) }
 {
     index.get(usize::from(shard))?.last()
 }
 
+/// The place of the configuration of a shard's epoch.
 fn place_at(index: &[Places], shard: ShardId, epoch: Epoch) -> Option<usize>
     ensures { result ≡ place_in (places_of index.now shard) epoch }
 {

@@ -1,6 +1,6 @@
 //! Messages to the service as they stand in worked runs, and what it sends.
 ghost use Rattle.std.specs.Prelude.{◌≡◌, IfOk};
-ghost use Rattle.config_service.specs.Index.{AreFirsts};
+ghost use Rattle.config_service.specs.Firsts.{AreFirsts};
 
 use super::*;
 use std::alloc::Global;

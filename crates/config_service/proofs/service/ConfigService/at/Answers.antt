@@ -1,4 +1,4 @@
-use Rattle.config_service.proofs.IndexLaws.{config_at_place}
+use Rattle.config_service.proofs.Lookups.{config_at_place}
 use Rattle.config_service.specs.Index.{places_of}
 use Rattle.config_service.proofs.service.ConfigService.at.Goals as goal
 

@@ -1,6 +1,6 @@
 use Rattle.std.proofs.Common.{◌≡◌, true, length, ap, arith}
 use Rattle.protocol.specs.Service.{last_config, is_next}
-use Rattle.config_service.proofs.IndexLaws.{next_indexed, next_stored}
+use Rattle.config_service.proofs.Growth.{next_indexed, next_stored}
 use Rattle.config_service.proofs.service.ConfigService.keep.Goals as goal
 
 pub push_place-requires : goal.push_place-requires

@@ -1,4 +1,4 @@
-use Rattle.config_service.proofs.IndexLaws.{last_config_place}
+use Rattle.config_service.proofs.Lookups.{last_config_place}
 use Rattle.config_service.specs.Index.{places_of}
 use Rattle.config_service.proofs.service.ConfigService.last.Goals as goal
 
