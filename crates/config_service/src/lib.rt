@@ -1,5 +1,5 @@
-//! The configuration service: what it stores of each shard, and what it does with a message. After the configuration
-//! service of Bravo and Gotsman (PODC 2019); its messages are this project's own. No look-up goes through all that is stored.
+//! The configuration service: what it stores of each shard, and what it does with a message. No look-up goes through all
+//! that is stored. After the configuration service of Bravo and Gotsman (PODC 2019); its messages are this project's own.
 #![tactic(auto)]
 
 mod holding;
