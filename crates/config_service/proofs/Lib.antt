@@ -1,0 +1,4 @@
+mod Lookups
+mod Growth
+mod FirstIndex
+pub mod SetupFirsts

@@ -1,0 +1,9 @@
+use Rattle.config_service.proofs.Lookups.{config_at_place}
+use Rattle.config_service.specs.Index.{places_of}
+use Rattle.config_service.proofs.service.ConfigService.at.Goals as goal
+
+pub returns : goal.returns
+returns c =
+    let stored = c.self.inside in
+    let there = config_at_place stored.configs.items c.args.shard c.args.epoch (places_of stored.index.items c.args.shard) (c.self.invariant.each c.args.shard) in
+    cc
