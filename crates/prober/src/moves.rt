@@ -2,7 +2,7 @@
 ghost use Rattle.std.specs.Prelude.{◌≡◌, ◌+◌, ◌≤◌, ◌<◌, ◌++◌, ℕ, List, [], IsTrue, IfOk, OnOk, OnErr};
 ghost use Rattle.tcs_terms.specs.declared.limits.TheConstants.{MAX_NODES};
 ghost use Rattle.tcs_terms.specs.declared.messages.Outgoing.{Outgoing as Sent};
-ghost use Rattle.tcs_terms.specs.Places.{is_among};
+ghost use Rattle.tcs_terms.specs.Places.{is_among, IsMembership};
 ghost use Rattle.protocol.specs.Records.Stage.{Probing};
 ghost use Rattle.protocol.specs.Coordination.{add_once};
 ghost use Rattle.protocol.specs.Probing.{probe, awaits, on_stored, on_probe_ack, lower};
@@ -56,11 +56,13 @@ pub(crate) fn on_stored(
     ensures sends { OnOk result (out.new.items ≡ out.old.items ++ (on_stored me (stage_of stage.old) stored.now).sends) }
     ensures unchanged { OnErr result (stage_of stage.new ≡ stage_of stage.old) }
     ensures begins { OnErr result ((more : List Sent) × (out.new.items ≡ out.old.items ++ more)) }
+    ensures config { IsMembership stored.now }
 {
+    let last = stored.epoch();
     match stage {
         Stage::Idle | Stage::Probing { .. } => Ok(()),
         Stage::AskedLast { shard, want } => {
-            *stage = probing(alloc, *shard, want, stored.epoch() + 1, stored, out)?;
+            *stage = probing(alloc, *shard, want, last + 1, stored, out)?;
             Ok(())
         }
         Stage::AskedLower {
