@@ -114,7 +114,7 @@ pub(crate) fn on_probe_ack(
     ensures kept { OnOk result (stage_of stage.new ≡ (on_probe_ack me (stage_of stage.old) from epoch state).kept) }
     ensures sends { OnOk result (out.new.items ≡ out.old.items ++ (on_probe_ack me (stage_of stage.old) from epoch state).sends) }
     ensures unchanged { OnErr result (stage_of stage.new ≡ stage_of stage.old) }
-    ensures begins { OnErr result (out.new.items ≡ out.old.items) }
+    ensures unsent { OnErr result (out.new.items ≡ out.old.items) }
 {
     match stage {
         Stage::Idle | Stage::AskedLast { .. } => Ok(refusal(epoch, 0)),
@@ -149,7 +149,7 @@ pub(crate) fn lower(stage: &mut Stage, out: &mut Vec<Outgoing>) -> Result<Handle
     ensures kept { OnOk result (stage_of stage.new ≡ (lower (stage_of stage.old)).kept) }
     ensures sends { OnOk result (out.new.items ≡ out.old.items ++ (lower (stage_of stage.old)).sends) }
     ensures unchanged { OnErr result (stage_of stage.new ≡ stage_of stage.old) }
-    ensures begins { OnErr result (out.new.items ≡ out.old.items) }
+    ensures unsent { OnErr result (out.new.items ≡ out.old.items) }
 {
     match stage {
         Stage::Idle | Stage::AskedLast { .. } => Ok(Handled::Held(0)),

@@ -5,6 +5,7 @@ ghost use Rattle.tcs_terms.specs.declared.inputs.Input.TheVariants.{Move};
 ghost use Rattle.tcs_terms.specs.declared.messages.Outgoing.{Outgoing as Sent};
 ghost use Rattle.tcs_terms.specs.Events.{InputInRange};
 ghost use Rattle.protocol.specs.Records.Stage.{Idle};
+ghost use Rattle.prober.specs.Soundness.{AreInRange};
 ghost use Rattle.protocol.specs.Probing.{prober_epoch, start_move, ask_stage, awaits, on_stored, on_probe_ack, lower};
 
 use crate::moves;
@@ -61,8 +62,9 @@ impl Prober {
         ensures answer { IfOk result (λ h. h ≡ (start_move shard want).answer) }
         ensures kept { OnOk result (self.new ≡ (start_move shard want).kept) }
         ensures sends { OnOk result (out.new.items ≡ out.old.items ++ (start_move shard want).sends) }
+        ensures in_range { AreInRange (start_move shard want).sends }
         ensures unchanged { OnErr result (self.new ≡ self.old) }
-        ensures begins { OnErr result (out.new.items ≡ out.old.items) }
+        ensures unsent { OnErr result (out.new.items ≡ out.old.items) }
     {
         ask_last(shard, out)?;
         self.stage = Stage::AskedLast { shard, want };
@@ -72,6 +74,7 @@ impl Prober {
     /// What the prober waits for is asked again.
     pub fn ask(&self, alloc: Global, out: &mut Vec<Outgoing>) -> Result<(), OutOfMemory>
         ensures sends { OnOk result (out.new.items ≡ out.old.items ++ ask_stage self.now) }
+        ensures in_range { AreInRange (ask_stage self.now) }
         ensures begins { OnErr result ((more : List Sent) × (out.new.items ≡ out.old.items ++ more)) }
     {
         ask_again(alloc, &self.stage, out)
@@ -95,6 +98,7 @@ impl Prober {
         requires { (view : ℕ) × IsTrue (awaits self.old config.now view) }
         ensures kept { OnOk result (self.new ≡ (on_stored me self.old config.now).kept) }
         ensures sends { OnOk result (out.new.items ≡ out.old.items ++ (on_stored me self.old config.now).sends) }
+        ensures in_range { AreInRange (on_stored me self.old config.now).sends }
         ensures unchanged { OnErr result (self.new ≡ self.old) }
         ensures begins { OnErr result ((more : List Sent) × (out.new.items ≡ out.old.items ++ more)) }
     {
@@ -116,8 +120,9 @@ impl Prober {
         ensures answer { IfOk result (λ h. h ≡ (on_probe_ack me self.old from epoch state).answer) }
         ensures kept { OnOk result (self.new ≡ (on_probe_ack me self.old from epoch state).kept) }
         ensures sends { OnOk result (out.new.items ≡ out.old.items ++ (on_probe_ack me self.old from epoch state).sends) }
+        ensures in_range { AreInRange (on_probe_ack me self.old from epoch state).sends }
         ensures unchanged { OnErr result (self.new ≡ self.old) }
-        ensures begins { OnErr result (out.new.items ≡ out.old.items) }
+        ensures unsent { OnErr result (out.new.items ≡ out.old.items) }
     {
         moves::on_probe_ack(&mut self.stage, alloc, me, from, epoch, state, out)
     }
@@ -127,8 +132,9 @@ impl Prober {
         ensures answer { IfOk result (λ h. h ≡ (lower self.old).answer) }
         ensures kept { OnOk result (self.new ≡ (lower self.old).kept) }
         ensures sends { OnOk result (out.new.items ≡ out.old.items ++ (lower self.old).sends) }
+        ensures in_range { AreInRange (lower self.old).sends }
         ensures unchanged { OnErr result (self.new ≡ self.old) }
-        ensures begins { OnErr result (out.new.items ≡ out.old.items) }
+        ensures unsent { OnErr result (out.new.items ≡ out.old.items) }
     {
         moves::lower(&mut self.stage, out)
     }
