@@ -1,15 +1,15 @@
 -- What is proposed is a configuration.
-use Rattle.std.proofs.Common.{◌≡◌, ℕ, ◌+◌, ◌≤◌, Bool, true, false, ◌&&◌, ◌||◌, ◌==◌, IsTrue, cond, List, [], ◌∷◌, ◌++◌, length, map, filter, refl, sym, ◌∙◌, ap, arith, length-append}
+use Rattle.std.proofs.Common.{◌≡◌, ℕ, ◌+◌, ◌≤◌, Bool, true, false, ◌&&◌, ◌||◌, ◌==◌, IsTrue, cond, List, [], ◌∷◌, ◌++◌, length, filter, refl, sym, ◌∙◌, ap, arith, length-append}
 use Rattle.std.specs.Prelude.{nat_lt, nat_le}
 use Rattle.std.specs.List.{list_all, list_any}
 use Rattle.std.proofs.lemmas.Bool.Decides.{nat_tests}
 use Rattle.std.proofs.lemmas.List.{map-id}
 use Rattle.std.proofs.lemmas.List.Folds.{list_any-append, list_all-append}
-use Rattle.tcs_terms.specs.declared.limits.TheConstants.{MAX_WANTED, MAX_MEMBERS, MAX_NODES}
+use Rattle.tcs_terms.specs.declared.limits.TheConstants.{MAX_WANTED, MAX_NODES}
 use Rattle.tcs_terms.specs.declared.inputs.Input.TheVariants.{Move}
 use Rattle.tcs_terms.specs.Events.{InputInRange}
 use Rattle.tcs_terms.specs.Order.{ascends}
-use Rattle.tcs_terms.specs.Places.{is_shard, is_node, is_epoch, is_among, IsMembership}
+use Rattle.tcs_terms.specs.Places.{is_shard, is_node, is_epoch, IsMembership}
 use Rattle.tcs_terms.proofs.BoolLaws.{both, left_of, right_of}
 use Rattle.tcs_terms.proofs.OrderLaws.{numbers_skip, kept_ascends, kept_pass}
 use Rattle.protocol.specs.Probing.{joined, proposed}

@@ -9,7 +9,6 @@ use Rattle.tcs_terms.specs.declared.inputs.Input.TheVariants.{Move}
 use Rattle.tcs_terms.specs.declared.inputs.Handled.{Handled}
 use Rattle.tcs_terms.specs.declared.messages.Message.{Message}
 use Rattle.tcs_terms.specs.declared.messages.Message.TheVariants.{Last, At, Cas, Probe, NewConfig}
-use Rattle.tcs_terms.specs.declared.messages.Outgoing.{Outgoing}
 use Rattle.tcs_terms.specs.Events.{InputInRange}
 use Rattle.tcs_terms.specs.Messages.{InRange}
 use Rattle.tcs_terms.specs.Order.{ascends}
@@ -107,12 +106,12 @@ on_probe_ack-IsSafe me (Probing shard want wanted probed low) from epoch state p
     let answered = when (nat_le probed.epoch state) (propose (proposed me shard epoch want from)) (acts (Probing shard want wanted probed (add_once low from)) []) in
     when_safe ((epoch == wanted) && is_among probed.members from) answered (refuses epoch wanted (Probing shard want wanted probed low))
     (λ e.
-        let same = eqb-true epoch wanted (left_of (epoch == wanted) (is_among probed.members from) e) in
-        let member = right_of (epoch == wanted) (is_among probed.members from) e in
-        let chosen = proposed-IsMembership me shard epoch want from proposer sound.0 (rw same sound.1) (is_node-member probed from sound.2 member) in
-        when_safe (nat_le probed.epoch state) (propose (proposed me shard epoch want from)) (acts (Probing shard want wanted probed (add_once low from)) [])
-        (λ _. propose_safely (proposed me shard epoch want from) chosen)
-        (λ _. record { kept = sound; sends = none_in_range }))
+    let same = eqb-true epoch wanted (left_of (epoch == wanted) (is_among probed.members from) e) in
+    let member = right_of (epoch == wanted) (is_among probed.members from) e in
+    let chosen = proposed-IsMembership me shard epoch want from proposer sound.0 (rw same sound.1) (is_node-member probed from sound.2 member) in
+    when_safe (nat_le probed.epoch state) (propose (proposed me shard epoch want from)) (acts (Probing shard want wanted probed (add_once low from)) [])
+    (λ _. propose_safely (proposed me shard epoch want from) chosen)
+    (λ _. record { kept = sound; sends = none_in_range }))
     (λ _. rests_safely _ (Probing shard want wanted probed low) sound)
 on_probe_ack-IsSafe me (AskedLower shard want wanted asked) from epoch state proposer sound =
     rests_safely _ (AskedLower shard want wanted asked) sound
@@ -126,13 +125,13 @@ lower-IsSafe (Probing shard want epoch probed low) sound =
     let asks = acts (AskedLower shard want epoch (probed.epoch - 1)) (to 0 (At shard (probed.epoch - 1)) ∷ []) in
     when_safe (nat_lt 0 (length low) && nat_lt 1 probed.epoch) asks (rests _ (Probing shard want epoch probed low))
     (λ e.
-        let above = right_of (nat_lt 0 (length low)) (nat_lt 1 probed.epoch) e in
-        let at = sound.2.epoch in
-        let asked : IsTrue (is_epoch (probed.epoch - 1)) = grind (arith, nat_tests) in
-        record {
-          kept = (sound.0, sound.1, asked);
-          sends = one_in_range 0 (At shard (probed.epoch - 1)) (is_shard-moved shard want sound.0, asked);
-        })
+    let above = right_of (nat_lt 0 (length low)) (nat_lt 1 probed.epoch) e in
+    let at = sound.2.epoch in
+    let asked : IsTrue (is_epoch (probed.epoch - 1)) = grind (arith, nat_tests) in
+    record {
+      kept = (sound.0, sound.1, asked);
+      sends = one_in_range 0 (At shard (probed.epoch - 1)) (is_shard-moved shard want sound.0, asked);
+    })
     (λ _. rests_safely _ (Probing shard want epoch probed low) sound)
 lower-IsSafe (AskedLower shard want epoch asked) sound = rests_safely _ (AskedLower shard want epoch asked) sound
 lower-IsSafe (CasSent config) sound = rests_safely _ (CasSent config) sound

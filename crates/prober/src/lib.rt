@@ -7,5 +7,7 @@ mod probers;
 mod proposals;
 mod requests;
 mod stages;
+#[cfg(test)]
+mod tests;
 
 pub use probers::Prober;

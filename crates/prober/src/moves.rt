@@ -1,11 +1,11 @@
 //! How a stage of a move follows another. Where memory runs out, the stage stays as it was.
-ghost use Rattle.std.specs.Prelude.{◌≡◌, ◌+◌, ◌≤◌, ◌<◌, ◌++◌, ℕ, List, [], IsTrue, IfOk, OnOk, OnErr};
+ghost use Rattle.std.specs.Prelude.{◌≡◌, ◌≤◌, ◌++◌, List, [], IfOk, OnOk, OnErr};
 ghost use Rattle.tcs_terms.specs.declared.limits.TheConstants.{MAX_NODES};
 ghost use Rattle.tcs_terms.specs.declared.messages.Outgoing.{Outgoing as Sent};
 ghost use Rattle.tcs_terms.specs.Places.{is_among, IsMembership};
 ghost use Rattle.protocol.specs.Records.Stage.{Probing};
 ghost use Rattle.protocol.specs.Coordination.{add_once};
-ghost use Rattle.protocol.specs.Probing.{probe, awaits, on_stored, on_probe_ack, lower};
+ghost use Rattle.protocol.specs.Probing.{probe, on_stored, on_probe_ack, lower};
 ghost use Rattle.prober.specs.Stages.{stage_of};
 ghost use Rattle.prober.specs.Soundness.{IsSound};
 
@@ -66,7 +66,10 @@ pub(crate) fn on_stored(
             Ok(())
         }
         Stage::AskedLower {
-            shard, want, epoch, ..
+            shard,
+            want,
+            epoch,
+            ..
         } => {
             *stage = probing(alloc, *shard, want, *epoch, stored, out)?;
             Ok(())
@@ -166,7 +169,10 @@ pub(crate) fn lower(stage: &mut Stage, out: &mut Vec<Outgoing>) -> Result<Handle
             let asked = probed.epoch() - 1;
             ask_at(*shard, asked, out)?;
             if let Stage::Probing {
-                shard, want, epoch, ..
+                shard,
+                want,
+                epoch,
+                ..
             } = mem::replace(stage, Stage::Idle)
             {
                 *stage = Stage::AskedLower {

@@ -11,7 +11,10 @@ use tcs_terms::{Config, Epoch, NodeId, ShardId, Wanted};
 pub(crate) enum Stage {
     Idle,
     /// The last configuration of the shard was asked for.
-    AskedLast { shard: ShardId, want: Wanted },
+    AskedLast {
+        shard: ShardId,
+        want: Wanted,
+    },
     /// The members of a configuration are asked to promise the epoch that is to come; those in `low` were never
     /// initialised at or above the epoch of that configuration.
     Probing {
@@ -29,7 +32,9 @@ pub(crate) enum Stage {
         asked: Epoch,
     },
     /// A configuration was proposed.
-    CasSent { config: Config },
+    CasSent {
+        config: Config,
+    },
 }
 
 impl Stage {
