@@ -87,7 +87,8 @@ impl Prober {
         self.stage.awaits(config, view)
     }
 
-    /// The stored configuration that the prober awaits is there. The node is 1 to 64.
+    /// A stored configuration is there that the prober awaits: its members are probed, or the move is done, and then
+    /// its leader is told where this node, `me`, proposed it.
     pub fn on_stored(
         &mut self,
         alloc: Global,
@@ -105,8 +106,9 @@ impl Prober {
         moves::on_stored(&mut self.stage, alloc, me, config, out)
     }
 
-    /// A node promised an epoch, and told the last one in which it was initialised, 0 if never. `me`, the node that
-    /// proposes, is 1 to 64.
+    /// A node promised an epoch, and told the last one in which it was initialised, 0 if never: it is proposed as
+    /// leader, or marked low. Where the prober does not probe it for that epoch, the answer is `Stale` or `Held`, and
+    /// tells the epoch that is to come. This node, `me`, is at most 64.
     pub fn on_probe_ack(
         &mut self,
         alloc: Global,
@@ -127,7 +129,8 @@ impl Prober {
         moves::on_probe_ack(&mut self.stage, alloc, me, from, epoch, state, out)
     }
 
-    /// Down one epoch, once a member of the probed configuration answered low.
+    /// Down one epoch, once a member of the probed configuration answered low and where there is a lower one; else the
+    /// answer is `Held`, and tells the epoch that is to come.
     pub fn lower(&mut self, out: &mut Vec<Outgoing>) -> Result<Handled, OutOfMemory>
         ensures answer { IfOk result (λ h. h ≡ (lower self.old).answer) }
         ensures kept { OnOk result (self.new ≡ (lower self.old).kept) }

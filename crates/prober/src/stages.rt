@@ -15,8 +15,8 @@ pub(crate) enum Stage {
         shard: ShardId,
         want: Wanted,
     },
-    /// The members of a configuration are asked to promise the epoch that is to come; those in `low` were never
-    /// initialised at or above the epoch of that configuration.
+    /// The members of a configuration are asked to promise the epoch that is to come; those in `low` answered that
+    /// they were not initialised at its epoch or later.
     Probing {
         shard: ShardId,
         want: Wanted,
