@@ -1,117 +1,21 @@
 -- A new piece fits exactly where its rows stand apart from the pieces that are kept, and its transactions are new.
-use Rattle.std.proofs.Common.{◌≡◌, ℕ, ◌<◌, ◌≤◌, ◌-◌, suc, Bool, true, false, not, ltb, eqb, cond, List, [], ◌∷◌, ◌++◌, length, filter, Some, inl, inr, refl, sym, ap, ◌∙◌, arith}
-use Rattle.std.specs.List.{list_any, list_all, slice_get}
-use Rattle.std.proofs.lemmas.Bool.{ltb-true, lt-ltb, not_from_false}
+use Rattle.std.proofs.Common.{◌≡◌, ℕ, Bool, true, false, not, ltb, cond, List, [], ◌∷◌, ◌++◌, inl, inr, refl, sym, ap, ◌∙◌, arith}
+use Rattle.std.specs.List.{list_any, list_all}
+use Rattle.std.proofs.lemmas.Bool.{not_from_false}
 use Rattle.std.proofs.lemmas.Bool.Decides.{nat_tests}
 use Rattle.std.proofs.lemmas.List.Concat.{flat_map-append}
 use Rattle.tcs_terms.specs.declared.logs.Row.{Row}
 use Rattle.tcs_terms.specs.Logs.{same_txn}
-use Rattle.tcs_terms.proofs.BoolLaws.{both, not_false, neither_left, neither_right}
+use Rattle.tcs_terms.proofs.BoolLaws.{both, not_false}
 use Rattle.protocol.specs.Invariant.Time.{StandsIn}
 use Rattle.protocol.specs.Records.{Piece}
 use Rattle.protocol.specs.Pieces.{rows_of, with_piece, is_kept}
 use Rattle.protocol.proofs.Lists.{StandsIn-append, all-StandsIn}
-use Rattle.state_transfer.specs.Apart.{rises, ends_below, stands_apart, are_new}
+use Rattle.state_transfer.specs.Apart.{ends_below, stands_apart, are_new}
 use Rattle.state_transfer.proofs.Chains.{Chain, Across, Cut, cut, joined, Rising, stands_left, stands_right}
 use Rattle.state_transfer.proofs.Wholeness.{txns_of, Precedes, same_swap, none_is, is_none_of}
-
--- ---- rows and their ends
-
--- rows end with one whose slot is at or above each other's
-record Last (rows : List Row) (last : Row) : Type 0 where
-  there : slice_get rows (length rows - 1) ≡ Some last
-  stands : StandsIn last rows
-  above : (r : Row) → StandsIn r rows → r.entry.slot ≤ last.entry.slot
-
-last_of : (r : Row) (rows : List Row) → Chain Precedes (r ∷ rows) → (last : Row) × Last (r ∷ rows) last
-last_of r [] chain = (r, record { there = refl; stands = inl refl; above = λ s at. elim at [ inl e ↦ rw e (omega arith) | inr at ↦ absurd at ] })
-last_of r (s ∷ rows) chain = go (last_of s rows chain.1) where
-  go : ((last : Row) × Last (s ∷ rows) last) → (last : Row) × Last (r ∷ s ∷ rows) last
-  go p = (
-    p.0,
-    record {
-      there = let e : length (r ∷ s ∷ rows) - 1 ≡ suc (length (s ∷ rows) - 1) = omega arith in rw e p.1.there;
-      stands = inr p.1.stands;
-      above = λ x at. elim at [ inl e ↦ rw e (omega (arith, (chain.0 p.0 p.1.stands).below)) | inr later ↦ p.1.above x later ];
-    },
-  )
-
-first_below : (r : Row) (rows : List Row) → Chain Precedes (r ∷ rows) → (s : Row) → StandsIn s (r ∷ rows) → r.entry.slot ≤ s.entry.slot
-first_below r rows chain s (inl e) = rw e (omega arith)
-first_below r rows chain s (inr at) = omega (arith, (chain.0 s at).below)
-
--- rows end below others exactly where each slot of theirs is below each of the others
-slots_below : (lower upper : List Row) → Chain Precedes lower → Chain Precedes upper → ends_below lower upper ≡ true → (x y : Row) → StandsIn x lower → StandsIn y upper → x.entry.slot < y.entry.slot
-slots_below [] upper low up below x y s t = absurd s
-slots_below (r ∷ rows) [] low up below x y s t = absurd t
-slots_below (r ∷ rows) (u ∷ us) low up below x y s t =
-    let last = last_of r rows low in
-    let ends : rises (Some last.0) (Some u) ≡ true = rw last.1.there at below in
-    omega (arith, ltb-true last.0.entry.slot u.entry.slot ends, last.1.above x s, first_below u us up y t)
-
-below_ends : (lower upper : List Row) → Chain Precedes lower → Chain Precedes upper → ((x y : Row) → StandsIn x lower → StandsIn y upper → x.entry.slot < y.entry.slot) → ends_below lower upper ≡ true
-below_ends [] upper low up below = refl
-below_ends (r ∷ rows) [] low up below = let last = last_of r rows low in rw last.1.there refl
-below_ends (r ∷ rows) (u ∷ us) low up below =
-    let last = last_of r rows low in
-    rw last.1.there (lt-ltb last.0.entry.slot u.entry.slot (below last.0 u last.1.stands (inl refl)))
-
--- ---- pieces in order of their numbers
-
--- the pieces of lower, and of higher numbers
-abbrev pub lower : ℕ → List Piece → List Piece
-lower number kept = filter (λ p. ltb p.number number) kept
-
-abbrev pub upper : ℕ → List Piece → List Piece
-upper number kept = filter (λ p. ltb number p.number) kept
-
-abbrev pub number_of : Piece → ℕ
-number_of p = p.number
-
--- an element of a filtered list, and the other way round
-pub stands_filtered : {X : Type 0} (test : X → Bool) (xs : List X) (x : X) → StandsIn x (filter test xs) → StandsIn x xs × (test x ≡ true)
-stands_filtered test [] x s = absurd s
-stands_filtered {X = X} test (y ∷ ys) x s = go (test y) refl s (stands_filtered test ys x) where
-  go : (b : Bool) → test y ≡ b → StandsIn x (cond b (y ∷ filter test ys) (filter test ys)) → (StandsIn x (filter test ys) → StandsIn x ys × (test x ≡ true)) → StandsIn x (y ∷ ys) × (test x ≡ true)
-  go true e (inl q) more = (inl q, rw q e)
-  go true e (inr q) more = let m = more q in (inr m.0, m.1)
-  go false e q more = let m = more q in (inr m.0, m.1)
-
-pub filtered_stands : {X : Type 0} (test : X → Bool) (xs : List X) (x : X) → StandsIn x xs → test x ≡ true → StandsIn x (filter test xs)
-filtered_stands test [] x s passes = absurd s
-filtered_stands {X = X} test (y ∷ ys) x s passes = go (test y) refl s (λ t. filtered_stands test ys x t passes) where
-  go : (b : Bool) → test y ≡ b → StandsIn x (y ∷ ys) → (StandsIn x ys → StandsIn x (filter test ys)) → StandsIn x (cond b (y ∷ filter test ys) (filter test ys))
-  go true e (inl q) more = inl q
-  go true e (inr q) more = inr (more q)
-  go false e (inl q) more = absurd (let wrong : test x ≡ false = rw q e in cc)
-  go false e (inr q) more = more q
-
-none_pass : {X : Type 0} (test : X → Bool) (xs : List X) → ((x : X) → StandsIn x xs → test x ≡ false) → filter test xs ≡ []
-none_pass test [] none = refl
-none_pass test (x ∷ xs) none = rw (none x (inl refl)) (none_pass test xs (λ y s. none y (inr s)))
-
-all_pass : {X : Type 0} (test : X → Bool) (xs : List X) → ((x : X) → StandsIn x xs → test x ≡ true) → filter test xs ≡ xs
-all_pass test [] all = refl
-all_pass test (x ∷ xs) all = rw (all x (inl refl)) (ap (λ (ys : List _). x ∷ ys) (all_pass test xs (λ y s. all y (inr s))))
-
--- kept pieces are those of lower and then those of higher numbers, where there is none of this number
-pub parted : (number : ℕ) (kept : List Piece) → Chain (Rising number_of) kept → is_kept kept number ≡ false → lower number kept ++ upper number kept ≡ kept
-parted number [] chain new = refl
-parted number (p ∷ ps) chain new =
-    go (ltb p.number number) refl (ltb number p.number) refl (parted number ps chain.1 (neither_right (eqb p.number number) (is_kept ps number) new)) where
-      go : (a : Bool) → ltb p.number number ≡ a → (b : Bool) → ltb number p.number ≡ b → lower number ps ++ upper number ps ≡ ps
-          → cond a (p ∷ lower number ps) (lower number ps) ++ cond b (p ∷ upper number ps) (upper number ps) ≡ p ∷ ps
-      go true e false f rest = ap (λ (qs : List Piece). p ∷ qs) rest
-      go true e true f rest = absurd (let x = ltb-true p.number number e in let y = ltb-true number p.number f in omega arith)
-      go false e true f rest =
-          let above = ltb-true number p.number f in
-          rw (
-            none_pass (λ q. ltb q.number number) ps (λ q s. let q_above = chain.0 q s in grind (arith, nat_tests)),
-            all_pass (λ q. ltb number q.number) ps (λ q s. let q_above = chain.0 q s in grind (arith, nat_tests)),
-          ) refl
-      go false e false f rest = absurd (let other = neither_left (eqb p.number number) (is_kept ps number) new in grind (arith, nat_tests))
-
--- ---- a piece among those that are kept
+use Rattle.state_transfer.proofs.Ends.{slots_below, below_ends}
+use Rattle.state_transfer.proofs.Parting.{lower, upper, number_of, parted, lower_number, upper_number, other_number, filtered_stands}
 
 pub stands_in_rows : (kept : List Piece) (p : Piece) (r : Row) → StandsIn p kept → StandsIn r p.rows → StandsIn r (rows_of kept)
 stands_in_rows [] p r s t = absurd s
@@ -164,12 +68,6 @@ new_from kept rows new r s at there =
     (not_false (list_any (same_txn r.entry.txn) (txns_of (rows_of kept))) (all-StandsIn (λ r. not (list_any (same_txn r.entry.txn) (txns_of (rows_of kept)))) rows r new at))
     s there
 
-pub lower_number : (kept : List Piece) (piece p : Piece) → StandsIn p (lower piece.number kept) → StandsIn p kept × (ltb p.number piece.number ≡ true)
-lower_number kept piece p s = stands_filtered (λ p. ltb p.number piece.number) kept p s
-
-pub upper_number : (kept : List Piece) (piece p : Piece) → StandsIn p (upper piece.number kept) → StandsIn p kept × (ltb piece.number p.number ≡ true)
-upper_number kept piece p s = stands_filtered (λ p. ltb piece.number p.number) kept p s
-
 not_lower : (a b : ℕ) → ltb b a ≡ true → ltb a b ≡ false
 not_lower a b above = grind (arith, nat_tests)
 
@@ -203,11 +101,6 @@ whole_with kept piece b apart new =
 all_from : {X : Type 0} (test : X → Bool) (xs : List X) → ((x : X) → StandsIn x xs → test x ≡ true) → list_all test xs ≡ true
 all_from test [] passes = refl
 all_from test (x ∷ xs) passes = both (test x) (list_all test xs) (passes x (inl refl)) (all_from test xs (λ y s. passes y (inr s)))
-
-other_number : (kept : List Piece) (number : ℕ) (p : Piece) → is_kept kept number ≡ false → StandsIn p kept → eqb p.number number ≡ false
-other_number [] number p new s = absurd s
-other_number (q ∷ qs) number p new (inl e) = rw e (neither_left (eqb q.number number) (is_kept qs number) new)
-other_number (q ∷ qs) number p new (inr s) = other_number qs number p (neither_right (eqb q.number number) (is_kept qs number) new) s
 
 -- the rows of a whole stand apart from each piece, and are new
 pub record Apart (kept : List Piece) (piece : Piece) : Type 0 where

@@ -18,7 +18,8 @@ use Rattle.state_transfer.specs.Keeping.{KeepsRows}
 use Rattle.state_transfer.proofs.Chains.{Chain, cut, joined, Rising, rises_along, ascends_along}
 use Rattle.state_transfer.proofs.Wholeness.{txns_of, Precedes, chain_of_whole, whole_of_chain}
 use Rattle.state_transfer.proofs.LogParts.{has_slot, chain_of_rows, rows_of_chain}
-use Rattle.state_transfer.proofs.Fitting.{lower, upper, number_of, parted, parted_rows, Beside, all_rows, lower_number, upper_number, whole_with, apart_in_whole}
+use Rattle.state_transfer.proofs.Parting.{lower, upper, number_of, parted, lower_number, upper_number}
+use Rattle.state_transfer.proofs.Fitting.{parted_rows, Beside, all_rows, whole_with, apart_in_whole}
 
 beside : (kept : List Piece) (keys : List TxId) (piece : Piece) → KeepsRows kept keys → is_kept kept piece.number ≡ false → AreRows piece.rows → Beside kept piece
 beside kept keys piece keeps new rows =

@@ -1,6 +1,8 @@
 pub mod Chains
 pub mod Wholeness
 pub mod LogParts
+pub mod Ends
+pub mod Parting
 pub mod Fitting
 pub mod KeptRows
 pub mod Taking
