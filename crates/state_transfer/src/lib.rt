@@ -8,6 +8,8 @@ mod gatherings;
 mod kept_pieces;
 mod pieces;
 mod sending;
+#[cfg(test)]
+mod tests;
 
 pub use choices::{drop_below, gather, gathering_for, takes_piece};
 pub use gatherings::Gathering;
