@@ -2,7 +2,7 @@
 ghost use Rattle.std.specs.Prelude.{◌≡◌, ◌≤◌, ◌++◌, List, [], IfOk, OnOk, OnErr};
 ghost use Rattle.tcs_terms.specs.declared.limits.TheConstants.{MAX_NODES};
 ghost use Rattle.tcs_terms.specs.declared.messages.Outgoing.{Outgoing as Sent};
-ghost use Rattle.tcs_terms.specs.Places.{is_among, IsMembership};
+ghost use Rattle.tcs_terms.specs.Places.{IsMembership};
 ghost use Rattle.protocol.specs.Records.Stage.{Probing};
 ghost use Rattle.protocol.specs.Coordination.{add_once};
 ghost use Rattle.protocol.specs.Probing.{probe, on_stored, on_probe_ack, lower};
@@ -15,7 +15,9 @@ use crate::stages::Stage;
 use answers::refusal;
 use std::alloc::Global;
 use std::mem;
-use tcs_terms::{Config, Epoch, Handled, NodeId, OutOfMemory, Outgoing, ShardId, Wanted};
+use tcs_terms::{
+    Config, Epoch, Handled, NodeId, OutOfMemory, Outgoing, ShardId, Wanted, is_among,
+};
 
 /// The members of a configuration are probed for an epoch; what the move wants is taken over.
 fn probing(
@@ -80,13 +82,6 @@ pub(crate) fn on_stored(
             Ok(())
         }
     }
-}
-
-/// Whether a node is among these.
-fn is_among(nodes: &[NodeId], node: NodeId) -> bool
-    ensures { result ≡ is_among nodes.now node }
-{
-    nodes.contains(&node)
 }
 
 /// A member is marked low, once.

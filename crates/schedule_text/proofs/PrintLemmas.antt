@@ -3,14 +3,7 @@ use Rattle.std.proofs.Common.{◌≡◌, ℕ, ◌+◌, ◌<◌, List, [], ◌∷
 use Rattle.std.specs.List.{flat_map}
 use Rattle.std.proofs.lemmas.List.{append-nil, take_more, length-take-le}
 use Rattle.std.proofs.lemmas.List.Concat.{flat_map-append}
-use Rattle.tcs_terms.specs.Appends.{Begins}
-use Rattle.tcs_terms.proofs.Appending.{begins_behind}
 use Rattle.schedule_text.specs.Text.{node_line, node_lines, with_feed}
-
--- a printer that stops in a loop keeps what was there before
-pub stops_behind : {A E : Type 0} (r : Result A E) (front text mid all : List ℕ) → mid ≡ front ++ text → Begins mid all → OnErr r (Begins front all)
-stops_behind (Ok x) front text mid all e b = tt
-stops_behind (Err f) front text mid all e b = begins_behind front text mid all e b
 
 pub node_lines_end : (first : ℕ) (ss : List ℕ) (s : ℕ) → node_lines first (ss ++ s ∷ []) ≡ node_lines first ss ++ node_line (first + length ss) s ∷ []
 node_lines_end first [] s = ap (λ n. node_line n s ∷ []) (omega arith)

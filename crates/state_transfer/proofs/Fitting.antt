@@ -13,7 +13,8 @@ use Rattle.protocol.specs.Pieces.{rows_of, with_piece, is_kept}
 use Rattle.protocol.proofs.Lists.{StandsIn-append, all-StandsIn}
 use Rattle.state_transfer.specs.Apart.{ends_below, stands_apart, are_new}
 use Rattle.state_transfer.proofs.Chains.{Chain, Across, Cut, cut, joined, Rising, stands_left, stands_right}
-use Rattle.state_transfer.proofs.Wholeness.{txns_of, Precedes, same_swap, none_is, is_none_of}
+use Rattle.tcs_terms.proofs.RowLaws.{same_swap}
+use Rattle.state_transfer.proofs.Wholeness.{txns_of, Precedes, none_is, is_none_of}
 use Rattle.state_transfer.proofs.Ends.{slots_below, below_ends}
 use Rattle.state_transfer.proofs.Parting.{lower, upper, number_of, parted, lower_number, upper_number, other_number, filtered_stands}
 

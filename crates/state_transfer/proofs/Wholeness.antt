@@ -1,8 +1,7 @@
 -- Rows that may stand together in a log, as a chain.
-use Rattle.std.proofs.Common.{◌≡◌, ℕ, ◌<◌, true, false, not, eqb, List, [], ◌∷◌, map, inl, inr, refl, arith}
+use Rattle.std.proofs.Common.{◌≡◌, ℕ, ◌<◌, true, false, not, List, [], ◌∷◌, map, inl, inr, refl}
 use Rattle.std.specs.List.{list_any}
 use Rattle.std.proofs.lemmas.Bool.{or_from, not_from_false}
-use Rattle.std.proofs.lemmas.Bool.Decides.{nat_tests}
 use Rattle.tcs_terms.specs.declared.ids.TxId.{TxId}
 use Rattle.tcs_terms.specs.declared.logs.Row.{Row}
 use Rattle.tcs_terms.specs.Order.{ascends}
@@ -22,12 +21,6 @@ txns_of rows = map (λ r. r.entry.txn) rows
 pub record Precedes (r s : Row) : Type 0 where
   pub below : r.entry.slot < s.entry.slot
   pub apart : same_txn r.entry.txn s.entry.txn ≡ false
-
-eqb_swap : (a b : ℕ) → eqb a b ≡ eqb b a
-eqb_swap a b = grind (arith, nat_tests)
-
-pub same_swap : (a b : TxId) → same_txn a b ≡ same_txn b a
-same_swap a b = rw (eqb_swap a.home b.home, eqb_swap a.seq b.seq) refl
 
 -- a transaction is not among these exactly where it is none of them
 pub none_is : (t : TxId) (rows : List Row) → list_any (same_txn t) (txns_of rows) ≡ false → (s : Row) → StandsIn s rows → same_txn t s.entry.txn ≡ false

@@ -2,11 +2,12 @@
 ghost use Rattle.std.specs.Prelude.{◌≡◌, ◌++◌, ◌∷◌, [], flat_map, map, IfOk, OnOk, OnErr};
 ghost use Rattle.std.specs.List.{range_with_len};
 ghost use Rattle.tcs_terms.specs.declared.messages.Message.TheVariants.{NewState, StatePiece};
+ghost use Rattle.tcs_terms.specs.Appends.{Begins};
 ghost use Rattle.tcs_terms.specs.Logs.{AreRows};
 ghost use Rattle.protocol.specs.Pieces.{piece_count, piece_of};
 ghost use Rattle.protocol.specs.ShardRules.{state_to};
 ghost use Rattle.protocol.specs.Views.{followers};
-ghost use Rattle.state_transfer.specs.Sent.{piece_to, Begins};
+ghost use Rattle.state_transfer.specs.Sent.{piece_to};
 
 use crate::copies::copied;
 use crate::pieces::{piece, piece_count};

@@ -40,17 +40,17 @@ passed_at rows i last slot before after r lt is slot_is above low new same =
     ∙ ap (λ (k : ℕ). rows_fault k r.entry.slot after (drop (suc i) rows)) (omega arith))
 
 -- transactions that are not among these
-abbrev are_new : List TxId → List TxId → Bool
+abbrev pub are_new : List TxId → List TxId → Bool
 are_new txns ts = list_all (λ t. not (list_any (same_txn t) txns)) ts
 
 eqb_swap : (a b : ℕ) → eqb a b ≡ eqb b a
 eqb_swap a b = grind (arith, nat_tests)
 
-same_swap : (a b : TxId) → same_txn a b ≡ same_txn b a
+pub same_swap : (a b : TxId) → same_txn a b ≡ same_txn b a
 same_swap a b = rw (eqb_swap a.home b.home, eqb_swap a.seq b.seq) refl
 
 -- transactions are new beside one more exactly where they are new and it is not among them
-new_beside : (u : TxId) (txns ts : List TxId) → IsTrue (are_new (u ∷ txns) ts) → IsTrue (not (list_any (same_txn u) ts)) × IsTrue (are_new txns ts)
+pub new_beside : (u : TxId) (txns ts : List TxId) → IsTrue (are_new (u ∷ txns) ts) → IsTrue (not (list_any (same_txn u) ts)) × IsTrue (are_new txns ts)
 new_beside u txns [] new = (refl, refl)
 new_beside u txns (t ∷ ts) new =
     let n = and_parts (not (same_txn t u || list_any (same_txn t) txns)) (are_new (u ∷ txns) ts) new in
@@ -60,7 +60,7 @@ new_beside u txns (t ∷ ts) new =
       and_from (not (list_any (same_txn t) txns)) (are_new txns ts) (not_from_false (list_any (same_txn t) txns) apart.1) more.1,
     )
 
-new_with : (u : TxId) (txns ts : List TxId) → IsTrue (not (list_any (same_txn u) ts)) → IsTrue (are_new txns ts) → IsTrue (are_new (u ∷ txns) ts)
+pub new_with : (u : TxId) (txns ts : List TxId) → IsTrue (not (list_any (same_txn u) ts)) → IsTrue (are_new txns ts) → IsTrue (are_new (u ∷ txns) ts)
 new_with u txns [] apart new = refl
 new_with u txns (t ∷ ts) apart new =
     let n = and_parts (not (list_any (same_txn t) txns)) (are_new txns ts) new in
@@ -69,7 +69,7 @@ new_with u txns (t ∷ ts) apart new =
     (not_from_false (same_txn t u || list_any (same_txn t) txns) (or_from (same_txn t u) (list_any (same_txn t) txns) (same_swap t u ∙ a.0) (not-true (list_any (same_txn t) txns) n.0)))
     (new_with u txns ts (not_from_false (list_any (same_txn u) ts) a.1) n.1)
 
-all_new : (ts : List TxId) → IsTrue (are_new [] ts)
+pub all_new : (ts : List TxId) → IsTrue (are_new [] ts)
 all_new [] = refl
 all_new (t ∷ ts) = all_new ts
 

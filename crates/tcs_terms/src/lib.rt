@@ -42,6 +42,7 @@ pub use memory::OutOfMemory;
 pub use messages::{Message, Outgoing, Why};
 pub use objects::{Name, Value};
 pub use payloads::{Payload, RangePart, ReadPart, WritePart};
+pub use places::is_among;
 pub use printing::print_payload;
 pub use reading::read_payload;
 pub use setups::{Rule, Setup};

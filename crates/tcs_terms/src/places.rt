@@ -38,8 +38,8 @@ pub(crate) fn are_nodes(list: &[NodeId]) -> bool
     list.iter().all(|node| is_node(*node))
 }
 
-/// Whether a node is among these.
-pub(crate) fn is_among(nodes: &[NodeId], node: NodeId) -> bool
+/// Whether a node is one of these.
+pub fn is_among(nodes: &[NodeId], node: NodeId) -> bool
     ensures { result ≡ is_among nodes.now node }
 {
     nodes.contains(&node)

@@ -17,6 +17,7 @@ use Rattle.tcs_terms.specs.Payloads.{Accesses, IsPayload}
 use Rattle.tcs_terms.specs.Preparations.{Preparation, KeepsPayload}
 use Rattle.tcs_terms.specs.Logs.{same_txn, txns_differ}
 use Rattle.tcs_terms.specs.Messages.{is_slot, is_txn, IsVote, IsEntry, AreSentRows}
+use Rattle.tcs_terms.proofs.RowLaws.{are_new, new_beside, new_with, all_new}
 use Rattle.wire_frame.specs.declared.faults.FrameReason.TheVariants.{Range, Order}
 use Rattle.wire_frame.specs.Spelling.{two, counted, spell_txn, spell_payload, spell_voted, spell_entry, spell_mark, spell_row, spell_rows}
 use Rattle.wire_frame.specs.Reading.{number_at, tested}
@@ -158,40 +159,6 @@ row_again before r rest is =
 
 row_field : (before : Before) → IsField spell_row (RowGood before) (row_at before)
 row_field before = record { takes = row_takes before; again = row_again before }
-
--- transactions that are not among these
-abbrev are_new : List TxId → List TxId → Bool
-are_new txns ts = list_all (λ t. not (list_any (same_txn t) txns)) ts
-
-eqb_swap : (a b : ℕ) → eqb a b ≡ eqb b a
-eqb_swap a b = grind (arith, nat_tests)
-
-same_swap : (a b : TxId) → same_txn a b ≡ same_txn b a
-same_swap a b = rw (eqb_swap a.home b.home, eqb_swap a.seq b.seq) refl
-
--- transactions are new beside one more exactly where they are new and it is not among them
-new_beside : (u : TxId) (txns ts : List TxId) → IsTrue (are_new (u ∷ txns) ts) → IsTrue (not (list_any (same_txn u) ts)) × IsTrue (are_new txns ts)
-new_beside u txns [] new = (refl, refl)
-new_beside u txns (t ∷ ts) new =
-    let n = and_parts (not (same_txn t u || list_any (same_txn t) txns)) (are_new (u ∷ txns) ts) new in
-    let more = new_beside u txns ts n.1 in
-    let apart = or_parts (same_txn t u) (list_any (same_txn t) txns) (not-true (same_txn t u || list_any (same_txn t) txns) n.0) in (
-      not_from_false (same_txn u t || list_any (same_txn u) ts) (or_from (same_txn u t) (list_any (same_txn u) ts) (same_swap u t ∙ apart.0) (not-true (list_any (same_txn u) ts) more.0)),
-      and_from (not (list_any (same_txn t) txns)) (are_new txns ts) (not_from_false (list_any (same_txn t) txns) apart.1) more.1,
-    )
-
-new_with : (u : TxId) (txns ts : List TxId) → IsTrue (not (list_any (same_txn u) ts)) → IsTrue (are_new txns ts) → IsTrue (are_new (u ∷ txns) ts)
-new_with u txns [] apart new = refl
-new_with u txns (t ∷ ts) apart new =
-    let n = and_parts (not (list_any (same_txn t) txns)) (are_new txns ts) new in
-    let a = or_parts (same_txn u t) (list_any (same_txn u) ts) (not-true (same_txn u t || list_any (same_txn u) ts) apart) in
-    and_from (not (same_txn t u || list_any (same_txn t) txns)) (are_new (u ∷ txns) ts)
-    (not_from_false (same_txn t u || list_any (same_txn t) txns) (or_from (same_txn t u) (list_any (same_txn t) txns) (same_swap t u ∙ a.0) (not-true (list_any (same_txn t) txns) n.0)))
-    (new_with u txns ts (not_from_false (list_any (same_txn u) ts) a.1) n.1)
-
-all_new : (ts : List TxId) → IsTrue (are_new [] ts)
-all_new [] = refl
-all_new (t ∷ ts) = all_new ts
 
 abbrev slots_of : List Row → List ℕ
 slots_of rows = map (λ r. r.entry.slot) rows

@@ -1,6 +1,6 @@
 //! Reads sets of shards and configurations.
 ghost use Rattle.std.specs.Prelude.{◌≡◌, List, ℕ};
-ghost use Rattle.tcs_terms.specs.Places.{Membership, is_among};
+ghost use Rattle.tcs_terms.specs.Places.{Membership};
 ghost use Rattle.wire_frame.specs.Reading.{Gives};
 ghost use Rattle.wire_frame.specs.Parts.{shards_at, config_at};
 
@@ -9,7 +9,7 @@ use crate::numbers::{bad_at, byte_of, epoch_of, shard_of};
 use crate::sets::ascending_of;
 use std::alloc::Global;
 use tcs_terms::limits::{MAX_MEMBERS, MAX_NODES, MAX_SHARDS};
-use tcs_terms::{Config, Epoch, NodeId, ShardId, ShardSet};
+use tcs_terms::{Config, Epoch, NodeId, ShardId, ShardSet, is_among};
 
 pub fn shards_of(alloc: Global, bytes: &[u8]) -> Result<(ShardSet, &[u8]), ReadError>
     ensures { Gives (λ x. (x.0, x.1.now)) result (shards_at bytes.now) }
@@ -19,13 +19,6 @@ pub fn shards_of(alloc: Global, bytes: &[u8]) -> Result<(ShardSet, &[u8]), ReadE
         Ok(shards) => Ok((shards, rest)),
         Err(_) => unreachable!(),
     }
-}
-
-/// Whether a node is among these.
-fn is_among(nodes: &[NodeId], node: NodeId) -> bool
-    ensures { result ≡ is_among nodes.now node }
-{
-    nodes.iter().any(|member| *member == node)
 }
 
 /// What a configuration is built of.

@@ -1,7 +1,7 @@
 use Rattle.std.proofs.Common.{map, take}
 use Rattle.std.specs.List.{flat_map}
 use Rattle.schedule_text.specs.Text.{config_line, with_feed}
-use Rattle.schedule_text.proofs.PrintLemmas.{stops_behind}
+use Rattle.tcs_terms.proofs.Appending.{stops_behind}
 use Rattle.schedule_text.proofs.printing.put_configs.Goals as goal
 
 pub returns-in_err-put_config-clause-err : goal.returns-in_err-put_config-clause-err

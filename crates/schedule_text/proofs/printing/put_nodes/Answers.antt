@@ -1,7 +1,8 @@
 use Rattle.std.proofs.Common.{take, arith}
 use Rattle.std.specs.List.{flat_map}
 use Rattle.schedule_text.specs.Text.{node_lines, with_feed}
-use Rattle.schedule_text.proofs.PrintLemmas.{stops_behind, one_more_node}
+use Rattle.tcs_terms.proofs.Appending.{stops_behind}
+use Rattle.schedule_text.proofs.PrintLemmas.{one_more_node}
 use Rattle.schedule_text.proofs.printing.put_nodes.Goals as goal
 
 pub returns-in_err-put_node-clause-err : goal.returns-in_err-put_node-clause-err

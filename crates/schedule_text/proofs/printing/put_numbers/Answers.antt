@@ -1,6 +1,6 @@
 use Rattle.std.proofs.Common.{take}
 use Rattle.schedule_text.specs.Text.{numbers_text}
-use Rattle.schedule_text.proofs.PrintLemmas.{stops_behind}
+use Rattle.tcs_terms.proofs.Appending.{stops_behind}
 use Rattle.schedule_text.proofs.printing.put_numbers.Goals as goal
 
 pub returns-in_err-put_spaced-clause-err : goal.returns-in_err-put_spaced-clause-err
