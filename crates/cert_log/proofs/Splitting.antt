@@ -1,0 +1,1 @@
+-- Where rows whose slots ascend are split by a slot.
