@@ -1,5 +1,5 @@
 -- Rows whose slots ascend: a later row is above, and a slot is found where it stands.
-use Rattle.std.proofs.Common.{◌≡◌, ℕ, ◌+◌, ◌-◌, ◌<◌, ◌≤◌, zero, suc, Bool, true, false, ◌||◌, cond, List, [], ◌∷◌, length, get_or, refl, sym, ap, ◌∙◌, subst, inl, inr, arith}
+use Rattle.std.proofs.Common.{◌≡◌, ℕ, ◌+◌, ◌-◌, ◌<◌, ◌≤◌, zero, suc, Bool, true, false, ◌||◌, cond, List, [], ◌∷◌, length, get_or, take, drop, refl, sym, ap, ◌∙◌, subst, inl, inr, arith}
 use Rattle.std.specs.Prelude.{◌==◌, nat_lt, Option, Some, None, find, is_some}
 use Rattle.std.specs.List.{list_all, list_any, last_or, slice_get}
 use Rattle.std.proofs.lemmas.Bool.{cond-true, cond-false, and_parts, and_from, or_parts, ltb-true, lt-ltb, eq-eqb, ne_eqb, cases_Bool}
@@ -38,6 +38,21 @@ found_passes {X} p q (y ∷ ys) x each found = elim (cases_Bool (p y)) [
       subst (λ (z : X). q z ≡ true) same (and_parts (q y) (list_all q ys) each).0
   | inr past ↦ found_passes p q ys x (and_parts (q y) (list_all q ys) each).1 (sym (cond-false (p y) (Some y) (find p ys) past) ∙ found)
 ]
+
+pub all_taken : {X : Type 0} (p : X → Bool) (xs : List X) (i : ℕ) → ((k : ℕ) (d : X) → k < i → k < length xs → p (get_or xs k d) ≡ true) → list_all p (take i xs) ≡ true
+all_taken p xs zero each = refl
+all_taken p [] (suc i) each = refl
+all_taken p (x ∷ xs) (suc i) each =
+    and_from (p x) (list_all p (take i xs)) (each 0 x (omega arith) (omega arith))
+    (all_taken p xs i (λ k d before within. each (suc k) d (omega arith) (omega arith)))
+
+pub all_dropped : {X : Type 0} (p : X → Bool) (xs : List X) (i : ℕ) → ((k : ℕ) (d : X) → i ≤ k → k < length xs → p (get_or xs k d) ≡ true) → list_all p (drop i xs) ≡ true
+all_dropped p [] zero each = refl
+all_dropped p [] (suc i) each = refl
+all_dropped p (x ∷ xs) zero each =
+    and_from (p x) (list_all p xs) (each 0 x (omega arith) (omega arith))
+    (all_dropped p xs 0 (λ k d after within. each (suc k) d (omega arith) (omega arith)))
+all_dropped p (x ∷ xs) (suc i) each = all_dropped p xs i (λ k d after within. each (suc k) d (omega arith) (omega arith))
 
 -- nothing is found where nothing passes, and the other way round
 pub none_found : {X : Type 0} (p : X → Bool) (xs : List X) → list_any p xs ≡ false → find p xs ≡ None

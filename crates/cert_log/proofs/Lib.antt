@@ -5,3 +5,4 @@ pub mod Splitting
 pub mod Marking
 pub mod Indexing
 pub mod Voting
+pub mod Changing

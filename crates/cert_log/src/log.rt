@@ -161,7 +161,8 @@ impl<G: VoteGuard> CertLog<G> {
     /// The entry of a new transaction.
     fn new_entry(&self, txn: TxId, shards: ShardSet, part: Option<Payload>) -> Entry
         requires { is_full self.now ≡ false }
-        ensures { result ≡ new_entry G.Rule.tests self.now txn shards part }
+        ensures entry { result ≡ new_entry G.Rule.tests self.now txn shards part }
+        ensures are_rows { AreRows self.now }
     {
         let vote = vote_on_part(&self.guard, &self.rows, &part);
         Entry {

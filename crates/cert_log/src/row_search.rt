@@ -12,7 +12,13 @@ pub fn place_of(rows: &[Row], slot: Slot) -> Result<usize, usize>
     requires { IsTrue (ascends (slots_of rows.now)) }
     ensures { MatchResult result (StandsAt rows.now slot) (SplitsAt rows.now slot) }
 {
-    rows.binary_search_by_key(&slot, |row| row.entry.slot)
+    rows.binary_search_by_key(&slot, slot_of)
+}
+
+fn slot_of(row: &Row) -> Slot
+    ensures { result ≡ row.now.entry.slot }
+{
+    row.entry.slot
 }
 
 /// Where the row of a slot would stand that no row has, among rows whose slots ascend.

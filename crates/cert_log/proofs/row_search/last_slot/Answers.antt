@@ -3,7 +3,6 @@ use Rattle.std.proofs.Common.{None, ap, sym, ◌∙◌}
 use Rattle.tcs_terms.specs.declared.logs.Row.{Row}
 use Rattle.protocol.specs.Log.{slot_or_zero}
 use Rattle.cert_log.proofs.Ascending.{last_found}
-use Rattle.cert_log.proofs.Putting.{put_between}
 use Rattle.cert_log.proofs.row_search.last_slot.Goals as goal
 
 pub returns-in-Some : goal.returns-in-Some

@@ -1,0 +1,46 @@
+-- A log stays one when a row is put or marked.
+use Rattle.std.proofs.Common.{◌≡◌, ℕ, Bool, true, false, cond, List, [], ◌∷◌, ◌++◌, take, drop, Some, refl, sym, ap, ◌∙◌, subst}
+use Rattle.std.specs.Prelude.{is_some}
+use Rattle.std.specs.List.{insert, list_any}
+use Rattle.std.specs.Map.{lookup}
+use Rattle.std.proofs.lemmas.Bool.{not_from_false}
+use Rattle.std.proofs.lemmas.List.{take-append-drop}
+use Rattle.tcs_terms.specs.declared.ids.TxId.{TxId}
+use Rattle.tcs_terms.specs.declared.logs.Row.{Row}
+use Rattle.tcs_terms.specs.Logs.{same_txn, AreRows}
+use Rattle.tcs_terms.specs.Messages.{is_slot}
+use Rattle.tcs_laws.specs.Rows.{is_free, put_row}
+use Rattle.protocol.specs.Log.{row_of}
+use Rattle.cert_log.specs.Places.{SplitsAt, txns_of}
+use Rattle.cert_log.specs.Standing.{IsIndexOf, IsLog}
+use Rattle.cert_log.proofs.Putting.{Between, put_between, rows_between}
+use Rattle.cert_log.proofs.Indexing.{new_txn, index_between}
+use Rattle.cert_log.proofs.Splitting.{split_is_free}
+
+-- a row that is put where the rows are split is in its place
+pub inserted : (rows : List Row) (row : Row) (at : ℕ) → SplitsAt rows row.entry.slot at → put_row rows row ≡ insert rows at row
+inserted rows row at split =
+    subst (λ (xs : List Row). put_row xs row ≡ insert rows at row) (take-append-drop at rows)
+    (put_between (take at rows) row (drop at rows) split.below split.above)
+
+-- with a row put in its place, one transaction more in the index, and the guard told, a log is a log
+pub log_put : (Stands Stands' : List Row → Type 0) (index next : List (TxId × ℕ)) (rows : List Row) (row : Row) (at : ℕ)
+    → IsLog Stands index rows → SplitsAt rows row.entry.slot at → is_slot row.entry.slot ≡ true → is_some (row_of rows row.entry.txn) ≡ false
+    → ((q : TxId) → lookup (same_txn q) next ≡ cond (same_txn row.entry.txn q) (Some row.entry.slot) (lookup (same_txn q) index))
+    → ((before : List Row) → Stands before → is_free before row.entry.slot ≡ true → Stands' (put_row before row))
+    → IsLog Stands' next (insert rows at row)
+log_put Stands Stands' index next rows row at log split slot new puts told =
+    let lower : List Row = take at rows in
+    let upper : List Row = drop at rows in
+    let whole : rows ≡ lower ++ upper = sym (take-append-drop at rows) in
+    let between : Between lower row upper = record {
+      below = split.below;
+      above = split.above;
+      slot = slot;
+      new = subst (λ (xs : List Row). list_any (same_txn row.entry.txn) (txns_of xs) ≡ false) whole (new_txn row.entry.txn rows new);
+    } in
+    record {
+      are_rows = rows_between lower row upper between (subst AreRows whole log.are_rows);
+      is_index = index_between index next lower row upper between.new (subst (IsIndexOf index) whole log.is_index) puts;
+      stands = subst Stands' (inserted rows row at split) (told rows log.stands (not_from_false _ (split_is_free rows row.entry.slot at split)));
+    }
