@@ -1,21 +1,22 @@
 -- The index of a log with one row more, and what a list of rows has at each place.
 use Rattle.std.proofs.Common.{◌≡◌, ℕ, ◌+◌, ◌<◌, ◌≤◌, zero, suc, Bool, true, false, not, ◌||◌, cond, List, [], ◌∷◌, ◌++◌, length, get_or, take, map, Some, None, Option, refl, sym, ap, ◌∙◌, subst, inl, inr, arith}
-use Rattle.std.specs.Prelude.{nat_lt, find, is_some}
+use Rattle.std.specs.Prelude.{◌==◌, nat_lt, find, is_some}
 use Rattle.std.specs.List.{list_all, list_any}
 use Rattle.std.specs.Map.{lookup}
-use Rattle.std.proofs.lemmas.Bool.{cond-true, cond-false, and_parts, or_parts, or_from, lt-ltb, not-true, cases_Bool}
+use Rattle.std.proofs.lemmas.Bool.{cond-true, cond-false, and_parts, or_parts, or_from, lt-ltb, not-true, not_from_false, cases_Bool}
 use Rattle.std.proofs.lemmas.List.{append-nil, take_more, get_or_default}
 use Rattle.tcs_terms.specs.declared.ids.TxId.{TxId}
 use Rattle.tcs_terms.specs.declared.logs.Row.{Row}
+use Rattle.tcs_terms.specs.Order.{ascends}
 use Rattle.tcs_terms.specs.Logs.{same_txn, txns_differ, AreRows}
 use Rattle.tcs_terms.specs.Messages.{is_slot}
-use Rattle.tcs_laws.specs.Rows.{put_row}
+use Rattle.tcs_laws.specs.Rows.{is_free, put_row}
 use Rattle.tcs_laws.proofs.ListLemmas.{find_some, any_agree}
-use Rattle.protocol.specs.Log.{row_of}
+use Rattle.protocol.specs.Log.{row_of, row_at}
 use Rattle.cert_log.specs.Places.{slots_of, txns_of}
 use Rattle.cert_log.specs.Standing.{slot_of, IsIndexOf}
-use Rattle.cert_log.proofs.Ascending.{is_below, all_at, all_taken, none_found, rises}
-use Rattle.cert_log.proofs.Putting.{Between, put_between, find_between}
+use Rattle.cert_log.proofs.Ascending.{is_below, all_at, all_taken, none_found, rises, row_at-found}
+use Rattle.cert_log.proofs.Putting.{Between, put_between, free_between, find_between}
 use Rattle.cert_log.proofs.SameTxn.{same_txn-eq, same_txn-swap}
 
 -- ---- transactions that no row has
@@ -52,6 +53,15 @@ index_between index next lower row upper new is puts = record {
   moved : (b : Bool) (o : Option Row) → cond b (Some row.entry.slot) (slot_of o) ≡ slot_of (cond b (Some row) o)
   moved true o = refl
   moved false o = refl
+
+-- the slot of a transaction's row gives the row
+pub row_at-indexed : (rows : List Row) (txn : TxId) (slot : ℕ) → ascends (slots_of rows) ≡ true → Some slot ≡ slot_of (row_of rows txn) → row_at rows slot ≡ row_of rows txn
+row_at-indexed rows txn slot up is = go (row_of rows txn) refl is where
+  go : (o : Option Row) → row_of rows txn ≡ o → Some slot ≡ slot_of o → row_at rows slot ≡ row_of rows txn
+  go None found e = absurd cc
+  go (Some r) found e =
+      let same : r.entry.slot ≡ slot = cc in
+      subst (λ s. row_at rows s ≡ Some r) same (row_at-found (λ (x : Row). same_txn x.entry.txn txn) rows r up found) ∙ sym found
 
 -- ---- the rows up to a place, and the next
 
@@ -100,3 +110,11 @@ index_next index next rows i row are within is before puts =
     subst (λ (xs : List Row). IsIndexOf next xs) (take_next rows i row within is)
     (index_between index next (take i rows) row [] (next_between rows i row are within is).new
     (subst (λ (xs : List Row). IsIndexOf index xs) (sym (append-nil (take i rows))) before) puts)
+
+-- no row has the slot of one that is above all
+pub free_last : (rows : List Row) (slot : ℕ) → list_all (is_below slot) rows ≡ true → is_free rows slot ≡ true
+free_last rows slot below =
+    not_from_false _ (subst (λ (xs : List Row). list_any (λ r. r.entry.slot == slot) xs ≡ false) (append-nil rows) (free_between rows [] slot below refl))
+
+pub next_is_free : (rows : List Row) (i : ℕ) (row : Row) → AreRows rows → i < length rows → row ≡ get_or rows i row → is_free (take i rows) row.entry.slot ≡ true
+next_is_free rows i row are within is = free_last (take i rows) row.entry.slot (next_between rows i row are within is).below

@@ -1,8 +1,9 @@
 -- Marks: the row of a slot is changed and no other, and the rows stay those of a log.
-use Rattle.std.proofs.Common.{◌≡◌, ℕ, ◌+◌, ◌<◌, ◌≤◌, zero, suc, Bool, true, false, ◌&&◌, cond, List, [], ◌∷◌, length, get_or, set, map, Some, None, Option, refl, sym, ap, ◌∙◌, subst, inl, inr, arith}
-use Rattle.std.specs.Prelude.{◌==◌, nat_lt, find}
+use Rattle.std.proofs.Common.{◌≡◌, ℕ, ◌+◌, ◌<◌, ◌≤◌, zero, suc, Bool, true, false, ◌&&◌, cond, List, [], ◌∷◌, ◌⊎◌, length, get_or, set, map, Some, None, Option, refl, sym, ap, ◌∙◌, subst, inl, inr, arith}
+use Rattle.std.specs.Prelude.{◌==◌, nat_lt, find, slice_index}
 use Rattle.std.specs.List.{list_all, list_any}
 use Rattle.std.proofs.lemmas.Bool.{cond-true, cond-false, cond_both, or_parts, ltb-true, eq-eqb, ne_eqb, cases_Bool}
+use Rattle.std.proofs.lemmas.List.{get_or-map, set-get_or}
 use Rattle.std.proofs.lemmas.List.Folds.{list_all-map}
 use Rattle.tcs_terms.specs.declared.ids.TxId.{TxId}
 use Rattle.tcs_terms.specs.declared.logs.Row.{Row}
@@ -11,7 +12,8 @@ use Rattle.tcs_terms.specs.declared.logs.Mark.TheVariants.{Undecided, Committed,
 use Rattle.tcs_terms.specs.Order.{ascends}
 use Rattle.tcs_terms.specs.Logs.{same_txn, txns_differ, AreRows}
 use Rattle.tcs_terms.specs.Messages.{is_slot}
-use Rattle.protocol.specs.Log.{row_of, set_mark, marked}
+use Rattle.tcs_laws.specs.Rows as laws
+use Rattle.protocol.specs.Log.{row_of, first_mark, set_mark, marked}
 use Rattle.cert_log.specs.Places.{slots_of, txns_of, StandsAt}
 use Rattle.cert_log.specs.Standing.{slot_of, IsIndexOf}
 use Rattle.cert_log.proofs.Ascending.{is_above, tail_ascends, others_above, rises}
@@ -44,13 +46,45 @@ changed_at f slot (r ∷ rows) (suc at) d up within here =
     ap (λ (x : Row). x ∷ changed f slot rows) (cond-false (r.entry.slot == slot) (f r) r (ne_eqb r.entry.slot slot (λ e. omega arith)))
     ∙ ap (λ xs. r ∷ xs) (changed_at f slot rows at d (tail_ascends r rows up) (omega arith) here)
 
--- a mark that is set stays
-pub mark_stays : (mark : Mark) (r : Row) → (r.mark ≡ Undecided → ⊥) → set_mark mark r ≡ r
+-- ---- the row that a mark is for
+
+mark_stays : (mark : Mark) (r : Row) → (r.mark ≡ Undecided → ⊥) → set_mark mark r ≡ r
 mark_stays mark r decided = go r.mark refl where
   go : (m : Mark) → r.mark ≡ m → set_mark mark r ≡ r
   go Undecided e = absurd (decided e)
   go Committed e = rw e
   go Aborted e = rw e
+
+at_slot : (rows : List Row) (at : ℕ) (r : Row) → at < length rows → r ≡ get_or rows at r → slice_index (slots_of rows) at ≡ r.entry.slot
+at_slot rows at r within is = get_or-map (λ (x : Row). x.entry.slot) rows at r 0 within ∙ ap (λ (x : Row). x.entry.slot) (sym is)
+
+-- an undecided row gets the mark
+pub marked_here : (mark : Mark) (rows : List Row) (at : ℕ) (r : Row) → ascends (slots_of rows) ≡ true → at < length rows → r ≡ get_or rows at r
+    → r.mark ≡ Undecided → set rows at (record { entry = r.entry; mark = mark }) ≡ marked rows (slice_index (slots_of rows) at) mark
+marked_here mark rows at r up within is undecided =
+    ap (λ m. set rows at (record { entry = r.entry; mark = first_mark m mark })) (sym undecided)
+    ∙ ap (λ x. set rows at (set_mark mark x)) is
+    ∙ sym (changed_at (set_mark mark) (slice_index (slots_of rows) at) rows at r up within (sym (at_slot rows at r within is ∙ ap (λ (x : Row). x.entry.slot) is)))
+
+-- and a guard that is told of it stands for the rows with the mark
+pub told_here : (mark : Mark) (rows : List Row) (at : ℕ) (r : Row) → ascends (slots_of rows) ≡ true → at < length rows → r ≡ get_or rows at r
+    → r.mark ≡ Undecided → laws.marked rows r.entry.slot mark ≡ set rows at (record { entry = r.entry; mark = mark })
+told_here mark rows at r up within is undecided =
+    changed_at (laws.set_mark mark) r.entry.slot rows at r up within (ap (λ (x : Row). x.entry.slot) (sym is))
+    ∙ ap (λ x. set rows at (laws.set_mark mark x)) (sym is)
+    ∙ ap (λ m. set rows at (record { entry = r.entry; mark = laws.first_mark m mark })) undecided
+
+-- a mark that says an outcome is not open
+pub has_mark : (mark : Mark) → (mark ≡ Committed) ⊎ (mark ≡ Aborted) → mark ≡ Undecided → ⊥
+has_mark mark (inl committed) open_still = cc
+has_mark mark (inr aborted) open_still = cc
+
+-- a row with a mark keeps it
+pub marked_before : (mark : Mark) (rows : List Row) (at : ℕ) (r : Row) → ascends (slots_of rows) ≡ true → at < length rows → r ≡ get_or rows at r
+    → (r.mark ≡ Undecided → ⊥) → rows ≡ marked rows (slice_index (slots_of rows) at) mark
+marked_before mark rows at r up within is decided =
+    sym (set-get_or rows at r) ∙ ap (λ x. set rows at x) (sym is ∙ sym (mark_stays mark r decided) ∙ ap (λ x. set_mark mark x) is)
+    ∙ sym (changed_at (set_mark mark) (slice_index (slots_of rows) at) rows at r up within (sym (at_slot rows at r within is ∙ ap (λ (x : Row). x.entry.slot) is)))
 
 -- ---- what a mark leaves as it is
 

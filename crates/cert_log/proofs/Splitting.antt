@@ -1,6 +1,6 @@
 -- What a binary search by slots says, and the place of a slot that no row has.
 use Rattle.std.proofs.Common.{◌≡◌, ℕ, ◌+◌, ◌<◌, ◌≤◌, zero, suc, Bool, true, false, cond, List, [], ◌∷◌, ◌++◌, length, get_or, take, drop, Some, None, Ok, Err, Result, refl, sym, ap, ◌∙◌, subst, inl, inr, arith}
-use Rattle.std.specs.Prelude.{◌==◌, nat_lt, MatchResult}
+use Rattle.std.specs.Prelude.{◌==◌, nat_lt, is_some, MatchResult}
 use Rattle.std.specs.List.{list_all, list_any}
 use Rattle.std.specs.List.Sorted.{IsBinarySearchResult, IsNonDecreasingBy, IsSearchInRange}
 use Rattle.std.specs.Ordering.{nat_cmp, ordering_index}
@@ -100,3 +100,10 @@ none_at_split rows slot at split = none_found (λ r. r.entry.slot == slot) rows 
 pub some_at_stand : (rows : List Row) (slot at : ℕ) (d : Row) → ascends (slots_of rows) ≡ true → StandsAt rows slot at → row_at rows slot ≡ Some (get_or rows at d)
 some_at_stand rows slot at d up stand =
     row_at-here rows slot at d up stand.within (sym (get_or-map (λ r. r.entry.slot) rows at d 0 stand.within) ∙ stand.here)
+
+-- where a row stands, its slot is not free
+pub not_free : (rows : List Row) (slot at : ℕ) → ascends (slots_of rows) ≡ true → StandsAt rows slot at → is_some (row_at rows slot) ≡ false → ⊥
+not_free [] slot at up stand free = omega (arith, stand.within)
+not_free (r ∷ rows) slot at up stand free =
+    let some : is_some (row_at (r ∷ rows) slot) ≡ true = ap is_some (some_at_stand (r ∷ rows) slot at r up stand) in
+    cc

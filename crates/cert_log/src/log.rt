@@ -182,15 +182,16 @@ impl<G: VoteGuard> CertLog<G> {
         ensures rows { OnOk result (self.new ≡ put_entry self.old entry) }
         ensures err { OnErr result (self.new ≡ self.old) }
     {
+        let (slot, txn) = (entry.slot, entry.txn);
+        let at = free_place(&self.rows, slot);
         self.rows.reserve(1)?;
         self.index.reserve(1)?;
-        let at = free_place(&self.rows, entry.slot);
         let row = Row {
             entry,
             mark: Mark::Undecided,
         };
         self.guard.prepared(&row)?;
-        self.index.insert(row.entry.txn, row.entry.slot)?;
+        self.index.insert(txn, slot)?;
         self.rows.insert(at, row)?;
         Ok(())
     }
