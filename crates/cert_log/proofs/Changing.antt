@@ -7,14 +7,16 @@ use Rattle.std.proofs.lemmas.Bool.{not_from_false}
 use Rattle.std.proofs.lemmas.List.{take-append-drop}
 use Rattle.tcs_terms.specs.declared.ids.TxId.{TxId}
 use Rattle.tcs_terms.specs.declared.logs.Row.{Row}
+use Rattle.tcs_terms.specs.declared.logs.Mark.{Mark}
 use Rattle.tcs_terms.specs.Logs.{same_txn, AreRows}
 use Rattle.tcs_terms.specs.Messages.{is_slot}
 use Rattle.tcs_laws.specs.Rows.{is_free, put_row}
-use Rattle.protocol.specs.Log.{row_of}
+use Rattle.protocol.specs.Log.{row_of, marked}
 use Rattle.cert_log.specs.Places.{SplitsAt, txns_of}
 use Rattle.cert_log.specs.Standing.{IsIndexOf, IsLog}
 use Rattle.cert_log.proofs.Putting.{Between, put_between, rows_between}
-use Rattle.cert_log.proofs.Indexing.{new_txn, index_between}
+use Rattle.cert_log.proofs.Indexing.{new_txn, index_same, index_between}
+use Rattle.cert_log.proofs.Marking.{rows_marked, index_marked}
 use Rattle.cert_log.proofs.Splitting.{split_is_free}
 
 -- a row that is put where the rows are split is in its place
@@ -44,3 +46,26 @@ log_put Stands Stands' index next rows row at log split slot new puts told =
       is_index = index_between index next lower row upper between.new (subst (IsIndexOf index) whole log.is_index) puts;
       stands = subst Stands' (inserted rows row at split) (told rows log.stands (not_from_false _ (split_is_free rows row.entry.slot at split)));
     }
+
+-- a log stays one where its index keeps its entries in another order, and where its guard stands for what it stood for
+pub log_same : (Stands Stands' : List Row → Type 0) (index next : List (TxId × ℕ)) (rows same : List Row) → IsLog Stands index rows → same ≡ rows
+    → ((q : TxId) → lookup (same_txn q) next ≡ lookup (same_txn q) index) → ((before : List Row) → Stands before → Stands' before) → IsLog Stands' next same
+log_same Stands Stands' index next rows same log is order kept =
+    subst (λ (xs : List Row). IsLog Stands' next xs) (sym is) (record {
+      are_rows = log.are_rows;
+      is_index = index_same index next rows log.is_index order;
+      stands = kept rows log.stands;
+    })
+
+-- where the rows are split, also as they are listed elsewhere, and by a slot that is the same
+pub split_same : (rows same : List Row) (slot equal at : ℕ) → rows ≡ same → slot ≡ equal → SplitsAt rows slot at → SplitsAt same equal at
+split_same rows same slot equal at is slot_is split = subst (λ s. SplitsAt same s at) slot_is (subst (λ (xs : List Row). SplitsAt xs slot at) is split)
+
+-- a log stays one when a row is marked and its guard is told
+pub log_marked : (Stands Stands' : List Row → Type 0) (index : List (TxId × ℕ)) (rows next : List Row) (slot : ℕ) (mark : Mark) → IsLog Stands index rows
+    → next ≡ marked rows slot mark → Stands' next → IsLog Stands' index next
+log_marked Stands Stands' index rows next slot mark log is told = record {
+  are_rows = subst AreRows (sym is) (rows_marked slot mark rows log.are_rows);
+  is_index = subst (IsIndexOf index) (sym is) (index_marked slot mark index rows log.is_index);
+  stands = told;
+}

@@ -10,12 +10,13 @@ use Rattle.tcs_terms.specs.declared.logs.Row.{Row}
 use Rattle.tcs_terms.specs.Order.{ascends}
 use Rattle.tcs_terms.specs.Logs.{same_txn, txns_differ, AreRows}
 use Rattle.tcs_terms.specs.Messages.{is_slot}
+use Rattle.tcs_terms.specs.Preparations.{Preparation}
 use Rattle.tcs_laws.specs.Rows.{is_free, put_row}
 use Rattle.tcs_laws.proofs.ListLemmas.{find_some, any_agree}
-use Rattle.protocol.specs.Log.{row_of, row_at}
+use Rattle.protocol.specs.Log.{row_of, row_at, last_slot, undecided, put_entry}
 use Rattle.cert_log.specs.Places.{slots_of, txns_of}
 use Rattle.cert_log.specs.Standing.{slot_of, IsIndexOf}
-use Rattle.cert_log.proofs.Ascending.{is_below, all_at, all_taken, none_found, rises, row_at-found}
+use Rattle.cert_log.proofs.Ascending.{is_below, below_next, all_at, all_taken, none_found, rises, row_at-found}
 use Rattle.cert_log.proofs.Putting.{Between, put_between, free_between, find_between}
 use Rattle.cert_log.proofs.SameTxn.{same_txn-eq, same_txn-swap}
 
@@ -118,3 +119,13 @@ free_last rows slot below =
 
 pub next_is_free : (rows : List Row) (i : ℕ) (row : Row) → AreRows rows → i < length rows → row ≡ get_or rows i row → is_free (take i rows) row.entry.slot ≡ true
 next_is_free rows i row are within is = free_last (take i rows) row.entry.slot (next_between rows i row are within is).below
+
+-- the slot after the last one is free
+pub next_free : (rows : List Row) → ascends (slots_of rows) ≡ true → is_some (row_at rows (last_slot rows + 1)) ≡ false
+next_free rows up =
+    find_some (λ r. r.entry.slot == last_slot rows + 1) rows ∙ not-true _ (free_last rows (last_slot rows + 1) (below_next rows up))
+
+-- an entry of the next slot is put last
+pub put_new : (rows : List Row) (entry : Preparation) → ascends (slots_of rows) ≡ true → entry.slot ≡ last_slot rows + 1
+    → put_entry rows entry ≡ rows ++ undecided entry ∷ []
+put_new rows entry up slot_is = put_last rows (undecided entry) (subst (λ s. list_all (is_below s) rows ≡ true) (sym slot_is) (below_next rows up))
