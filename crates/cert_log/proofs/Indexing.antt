@@ -1,9 +1,9 @@
 -- The index of a log with one row more, and what a list of rows has at each place.
-use Rattle.std.proofs.Common.{◌≡◌, ℕ, ◌+◌, ◌<◌, ◌≤◌, zero, suc, Bool, true, false, not, ◌||◌, cond, List, [], ◌∷◌, ◌++◌, length, get_or, take, map, Some, None, Option, refl, sym, ap, ◌∙◌, subst, inl, inr, arith}
-use Rattle.std.specs.Prelude.{◌==◌, nat_lt, find, is_some}
+use Rattle.std.proofs.Common.{◌≡◌, ℕ, ◌+◌, ◌<◌, zero, suc, Bool, true, false, not, cond, List, [], ◌∷◌, ◌++◌, length, get_or, take, Some, None, Option, refl, sym, ap, ◌∙◌, subst, arith}
+use Rattle.std.specs.Prelude.{◌==◌, nat_lt, is_some}
 use Rattle.std.specs.List.{list_all, list_any}
 use Rattle.std.specs.Map.{lookup}
-use Rattle.std.proofs.lemmas.Bool.{cond-true, cond-false, and_parts, or_parts, or_from, lt-ltb, not-true, not_from_false, cases_Bool}
+use Rattle.std.proofs.lemmas.Bool.{and_parts, or_parts, or_from, lt-ltb, not-true, not_from_false}
 use Rattle.std.proofs.lemmas.List.{append-nil, take_more, get_or_default}
 use Rattle.tcs_terms.specs.declared.ids.TxId.{TxId}
 use Rattle.tcs_terms.specs.declared.logs.Row.{Row}
@@ -12,7 +12,7 @@ use Rattle.tcs_terms.specs.Logs.{same_txn, txns_differ, AreRows}
 use Rattle.tcs_terms.specs.Messages.{is_slot}
 use Rattle.tcs_terms.specs.Preparations.{Preparation}
 use Rattle.tcs_laws.specs.Rows.{is_free, put_row}
-use Rattle.tcs_laws.proofs.ListLemmas.{find_some, any_agree}
+use Rattle.tcs_laws.proofs.ListLemmas.{find_some}
 use Rattle.protocol.specs.Log.{row_of, row_at, last_slot, undecided, put_entry}
 use Rattle.cert_log.specs.Places.{slots_of, txns_of}
 use Rattle.cert_log.specs.Standing.{slot_of, IsIndexOf}

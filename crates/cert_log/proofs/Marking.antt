@@ -1,8 +1,8 @@
 -- Marks: the row of a slot is changed and no other, and the rows stay those of a log.
-use Rattle.std.proofs.Common.{◌≡◌, ℕ, ◌+◌, ◌<◌, ◌≤◌, zero, suc, Bool, true, false, ◌&&◌, cond, List, [], ◌∷◌, ◌⊎◌, length, get_or, set, map, Some, None, Option, refl, sym, ap, ◌∙◌, subst, inl, inr, arith}
-use Rattle.std.specs.Prelude.{◌==◌, nat_lt, find, slice_index}
+use Rattle.std.proofs.Common.{◌≡◌, ℕ, ◌<◌, zero, suc, true, false, cond, List, [], ◌∷◌, ◌⊎◌, length, get_or, set, map, Some, refl, sym, ap, ◌∙◌, subst, inl, inr, arith}
+use Rattle.std.specs.Prelude.{◌==◌, slice_index}
 use Rattle.std.specs.List.{list_all, list_any}
-use Rattle.std.proofs.lemmas.Bool.{cond-true, cond-false, cond_both, or_parts, ltb-true, eq-eqb, ne_eqb, cases_Bool}
+use Rattle.std.proofs.lemmas.Bool.{cond-true, cond-false, cond_both, or_parts, eq-eqb, ne_eqb, cases_Bool}
 use Rattle.std.proofs.lemmas.List.{get_or-map, set-get_or}
 use Rattle.std.proofs.lemmas.List.Folds.{list_all-map}
 use Rattle.tcs_terms.specs.declared.ids.TxId.{TxId}
@@ -14,7 +14,7 @@ use Rattle.tcs_terms.specs.Logs.{same_txn, txns_differ, AreRows}
 use Rattle.tcs_terms.specs.Messages.{is_slot}
 use Rattle.tcs_laws.specs.Rows as laws
 use Rattle.protocol.specs.Log.{row_of, first_mark, set_mark, marked}
-use Rattle.cert_log.specs.Places.{slots_of, txns_of, StandsAt}
+use Rattle.cert_log.specs.Places.{slots_of, txns_of}
 use Rattle.cert_log.specs.Standing.{slot_of, IsIndexOf}
 use Rattle.cert_log.proofs.Ascending.{is_above, tail_ascends, others_above, rises}
 use Rattle.cert_log.proofs.Putting.{free_between}

@@ -1,18 +1,17 @@
 -- A row is put between rows with lower slots and rows with greater ones.
-use Rattle.std.proofs.Common.{◌≡◌, ℕ, ◌<◌, Bool, true, false, not, ◌&&◌, ◌||◌, cond, List, [], ◌∷◌, ◌++◌, map, Some, None, refl, sym, ap, ◌∙◌, subst, inl, inr, arith}
-use Rattle.std.specs.Prelude.{◌==◌, nat_lt, nat_le, filter, find, Option}
+use Rattle.std.proofs.Common.{◌≡◌, ℕ, Bool, true, false, not, cond, List, [], ◌∷◌, ◌++◌, Some, None, refl, sym, ap, ◌∙◌, inl, inr, arith}
+use Rattle.std.specs.Prelude.{◌==◌, nat_lt, filter, find}
 use Rattle.std.specs.List.{list_all, list_any}
 use Rattle.std.proofs.lemmas.Bool.{cond-true, cond-false, cond_both, and_parts, and_from, or_parts, or_from, ltb-true, le-ltb, ne_eqb, cases_Bool, not-true, not_from_false}
 use Rattle.std.proofs.lemmas.List.{append-nil}
 use Rattle.std.proofs.lemmas.List.Elements.{filter-append}
 use Rattle.std.proofs.lemmas.List.Folds.{list_all-append, list_any-append}
-use Rattle.tcs_terms.specs.declared.limits.TheConstants.{MAX_SLOT}
 use Rattle.tcs_terms.specs.declared.ids.TxId.{TxId}
 use Rattle.tcs_terms.specs.declared.logs.Row.{Row}
 use Rattle.tcs_terms.specs.Order.{ascends}
 use Rattle.tcs_terms.specs.Logs.{same_txn, txns_differ, AreRows}
 use Rattle.tcs_terms.specs.Messages.{is_slot}
-use Rattle.tcs_laws.specs.Rows.{is_free, put_row}
+use Rattle.tcs_laws.specs.Rows.{put_row}
 use Rattle.cert_log.specs.Places.{slots_of, txns_of}
 use Rattle.cert_log.proofs.Ascending.{is_below, is_above, tail_ascends}
 use Rattle.cert_log.proofs.SameTxn.{same_txn-swap}

@@ -1,6 +1,6 @@
 -- Two transactions that a test takes for one are one, and each is one with itself.
-use Rattle.std.proofs.Common.{◌≡◌, true, ◌==◌, refl, sym, inl, inr, eqb-true, eq-eqb}
-use Rattle.std.proofs.lemmas.Bool.{and_parts, and_from, cases_Bool, false_from_ne_true}
+use Rattle.std.proofs.Common.{◌≡◌, true, ◌==◌, refl, inl, inr, eqb-true, eq-eqb}
+use Rattle.std.proofs.lemmas.Bool.{and_parts, and_from, cases_Bool}
 use Rattle.tcs_terms.specs.declared.ids.TxId.{TxId}
 use Rattle.tcs_terms.specs.Logs.{same_txn}
 

@@ -1,8 +1,7 @@
 -- An undecided row gets the mark and the guard is told; another row keeps the mark that it has.
 use Rattle.std.specs.Prelude.{slice_set}
-use Rattle.std.proofs.Common.{◌≡◌, ◌<◌, length, get_or, sym, ap, ◌∙◌, subst}
+use Rattle.std.proofs.Common.{sym, ap, ◌∙◌, subst}
 use Rattle.tcs_terms.specs.declared.logs.Row.{Row}
-use Rattle.tcs_terms.specs.declared.logs.Mark.TheVariants.{Undecided}
 use Rattle.std.proofs.lemmas.List.{get_or_default}
 use Rattle.cert_log.proofs.Marking.{marked_here, told_here, marked_before, has_mark}
 use Rattle.cert_log.proofs.marks.mark_row.Goals as goal

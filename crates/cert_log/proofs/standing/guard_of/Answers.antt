@@ -1,5 +1,5 @@
 -- Each row stands above those before it, so a guard that is told of it stands for one row more.
-use Rattle.std.proofs.Common.{◌<◌, ◌+◌, length, take, arith, subst}
+use Rattle.std.proofs.Common.{◌<◌, length, take, arith, subst}
 use Rattle.cert_log.proofs.Indexing.{put_next, next_is_free}
 use Rattle.cert_log.proofs.standing.guard_of.Goals as goal
 

@@ -1,5 +1,5 @@
 -- Each row's transaction is new to the rows before it.
-use Rattle.std.proofs.Common.{◌≡◌, ◌<◌, cond, length, Some, arith}
+use Rattle.std.proofs.Common.{◌≡◌, cond, Some, arith}
 use Rattle.std.proofs.Common.{subst}
 use Rattle.std.specs.Map.{lookup}
 use Rattle.tcs_terms.specs.declared.ids.TxId.{TxId}

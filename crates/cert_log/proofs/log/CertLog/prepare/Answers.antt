@@ -1,5 +1,5 @@
 -- The slot after the last one is free, and an entry there is put last.
-use Rattle.std.proofs.Common.{None, sym, ap, ◌∙◌, refl}
+use Rattle.std.proofs.Common.{ap, ◌∙◌, refl}
 use Rattle.std.specs.Prelude.{is_some}
 use Rattle.protocol.specs.Log.{row_at, put_entry, new_entry}
 use Rattle.cert_log.specs.Preparing.{rows_by}

@@ -1,5 +1,5 @@
 -- The index has the slot of the transaction's row.
-use Rattle.std.proofs.Common.{◌≡◌, sym, ap, ◌∙◌, subst}
+use Rattle.std.proofs.Common.{ap, ◌∙◌}
 use Rattle.protocol.specs.Log.{row_at, row_of}
 use Rattle.cert_log.proofs.Indexing.{row_at-indexed}
 use Rattle.cert_log.proofs.log.CertLog.row_of.Goals as goal
