@@ -7,6 +7,8 @@ mod log;
 mod marks;
 mod row_search;
 mod standing;
+#[cfg(test)]
+mod tests;
 
 pub use faults::PrepareFault;
 pub use log::CertLog;
