@@ -1,4 +1,4 @@
-//! A leader's log and a follower's.
+//! A leader's log, a follower's, and a full one.
 ghost use Rattle.std.specs.Prelude.{◌≡◌, IfOk};
 
 use crate::{CertLog, PrepareFault};
@@ -16,14 +16,14 @@ type SerialLog = CertLog<SerialIndex>;
 fn leader_prepares_each_transaction_once(rt: HostRuntime) -> Result<(), Fail> {
     let alloc = rt.alloc();
     let mut log = SerialLog::new(alloc);
-    let first = log.prepare(alloc, txn(1), shards(alloc)?, Some(payload(alloc)?))?;
-    assert_eq!(rt; (first.slot, first.vote), (1, Vote::Commit));
-    let second = log.prepare(alloc, txn(2), shards(alloc)?, Some(payload(alloc)?))?;
-    assert_eq!(rt; (second.slot, second.vote), (2, Vote::Clash(txn(1))));
-    let again = log.prepare(alloc, txn(1), shards(alloc)?, None)?;
-    assert_eq!(rt; (again.slot, again.vote), (1, Vote::Commit));
-    let lost = log.prepare(alloc, txn(3), shards(alloc)?, None)?;
-    assert_eq!(rt; (lost.slot, lost.vote), (3, Vote::Lost));
+    for (seq, want) in [
+        (1, (1, Vote::Commit)),
+        (2, (2, Vote::Clash(txn(1)))),
+        (1, (1, Vote::Commit)),
+    ] {
+        let made = prepare(alloc, &mut log, seq)?;
+        assert_eq!(rt; made, want, "of transaction {seq}");
+    }
     Ok(())
 }
 
@@ -31,42 +31,65 @@ fn leader_prepares_each_transaction_once(rt: HostRuntime) -> Result<(), Fail> {
 fn follower_accepts_in_any_order_and_marks_once(rt: HostRuntime) -> Result<(), Fail> {
     let alloc = rt.alloc();
     let mut log = SerialLog::new(alloc);
-    for slot in [2, 1] {
-        let next = entry(alloc, slot, slot)?;
-        assert!(rt; !log.is_taken(&next));
-        log.accept(next)?;
+    for (slot, seq, want) in [(2, 2, true), (1, 1, true), (2, 3, false), (3, 2, false)] {
+        let accepted = accept(alloc, &mut log, slot, seq)?;
+        assert_eq!(rt; accepted, want, "of transaction {seq} at slot {slot}");
     }
-    assert!(rt; log.has_at(1, txn(1)) && log.has_at(2, txn(2)) && !log.has_at(1, txn(2)));
-    assert!(rt; log.is_taken(&entry(alloc, 2, 3)?) && log.is_taken(&entry(alloc, 3, 2)?));
     log.mark(2, true);
     log.mark(2, false);
-    let marks: [Option<Mark>; 2] = [mark_of(&log, 1), mark_of(&log, 2)];
-    assert_eq!(rt; marks, [Some(Mark::Undecided), Some(Mark::Committed)]);
+    assert!(rt; log.has_at(1, txn(1)) && !log.has_at(1, txn(2)));
+    assert!(rt; has_mark(&log, 1, Mark::Undecided) && has_mark(&log, 2, Mark::Committed));
     Ok(())
 }
 
 #[test]
 fn full_log_refuses_new_transactions_alone(rt: HostRuntime) -> Result<(), Fail> {
     let alloc = rt.alloc();
-    let row = Row {
-        entry: entry(alloc, MAX_SLOT, 1)?,
-        mark: Mark::Aborted,
-    };
-    let mut log = SerialLog::build(alloc, vec![in alloc; row]?)?;
+    let mut log = full_log(alloc)?;
     assert!(rt; log.is_full() && log.rows().len() == 1);
-    let refused = log.prepare(alloc, txn(2), shards(alloc)?, None);
+    let kept = prepare(alloc, &mut log, 1)?;
+    assert_eq!(rt; kept, (MAX_SLOT, Vote::Lost));
+    let part = payload(alloc)?;
+    let refused = log.prepare(alloc, txn(2), shards(alloc)?, Some(part));
     assert!(rt; matches!(refused, Err(PrepareFault::Full)));
-    let kept = log.prepare(alloc, txn(1), shards(alloc)?, None)?;
-    assert_eq!(rt; kept.slot, MAX_SLOT);
     Ok(())
 }
 
-fn mark_of(log: &SerialLog, seq: u16) -> Option<Mark> {
-    log.row_of(txn(seq)).map(|row| row.mark)
+/// Prepares transaction 1.`seq` with a payload, and gives its slot and vote.
+fn prepare(alloc: Global, log: &mut SerialLog, seq: u16) -> Result<(Slot, Vote), Fail> {
+    let part = payload(alloc)?;
+    let entry = log.prepare(alloc, txn(seq), shards(alloc)?, Some(part))?;
+    Ok((entry.slot, entry.vote))
+}
+
+/// Whether the entry of a transaction that was lost is accepted at a slot.
+fn accept(alloc: Global, log: &mut SerialLog, slot: Slot, seq: u16) -> Result<bool, Fail> {
+    let entry = lost_entry(alloc, slot, seq)?;
+    let fits = (1..=MAX_SLOT).contains(&slot) && !log.is_taken(&entry);
+    if fits {
+        log.accept(entry)?;
+    }
+    Ok(fits)
+}
+
+fn has_mark(log: &SerialLog, seq: u16, mark: Mark) -> bool {
+    match log.row_of(txn(seq)) {
+        None => false,
+        Some(row) => row.mark == mark,
+    }
+}
+
+/// The log with a row in the last slot alone.
+fn full_log(alloc: Global) -> Result<SerialLog, Fail> {
+    let row = Row {
+        entry: lost_entry(alloc, MAX_SLOT, 1)?,
+        mark: Mark::Aborted,
+    };
+    Ok(SerialLog::build(alloc, vec![in alloc; row]?)?)
 }
 
 /// The entry of transaction 1.`seq`, which lost its payload.
-fn entry(alloc: Global, slot: Slot, seq: u16) -> Result<Entry, Fail>
+fn lost_entry(alloc: Global, slot: Slot, seq: u16) -> Result<Entry, Fail>
     ensures { IfOk result (λ e. e.slot ≡ slot) }
 {
     Ok(Entry {
