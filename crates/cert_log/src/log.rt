@@ -19,7 +19,7 @@ use tcs_terms::{Entry, Mark, OutOfMemory, Payload, Row, ShardSet, Slot, TxId, Vo
 
 /// A log whose votes are given by a guard `G`: rows in ascending slots from 1 to 4,096, each of another transaction.
 /// Seen as the list of its rows.
-#[derive(Drop)]
+#[derive(Debug, Drop)]
 pub struct CertLog<G: VoteGuard> {
     rows: Vec<Row>,
     /// The slot of each transaction's row.

@@ -2,15 +2,16 @@
 ghost use Rattle.std.specs.Prelude.{◌≡◌, IfOk};
 
 use crate::{CertLog, PrepareFault};
-use conflict_index::SerialIndex;
+use cert_serial::Serial;
 use std::alloc::Global;
 use std::test::Fail;
+use tcs_laws::ScanGuard;
 use tcs_terms::limits::MAX_SLOT;
 use tcs_terms::{
     Entry, Mark, Name, Payload, ReadPart, Row, ShardSet, Slot, TxId, Value, Vote, WritePart,
 };
 
-type SerialLog = CertLog<SerialIndex>;
+type SerialLog = CertLog<ScanGuard<Serial>>;
 
 #[test]
 fn leader_prepares_each_transaction_once(rt: HostRuntime) -> Result<(), Fail> {
