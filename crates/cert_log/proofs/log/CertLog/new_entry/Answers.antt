@@ -1,0 +1,8 @@
+-- There is no payload exactly where the vote is that the preparation was lost.
+use Rattle.std.proofs.Common.{subst, sym}
+use Rattle.tcs_terms.specs.Preparations.{KeepsPayload}
+use Rattle.cert_log.proofs.Voting.{vote_keeps}
+use Rattle.cert_log.proofs.log.CertLog.new_entry.Goals as goal
+
+pub invariant_of-result : goal.invariant_of-result
+invariant_of-result g c = subst (λ vote. KeepsPayload c.args.part vote) (sym c.vote_on_part-vote.ensures) (vote_keeps _ _ c.args.part)
