@@ -18,13 +18,14 @@ use Rattle.cert_log.specs.Places.{slots_of, txns_of}
 use Rattle.cert_log.specs.Standing.{slot_of, IsIndexOf}
 use Rattle.cert_log.proofs.Ascending.{is_below, below_next, all_at, all_taken, none_found, rises, row_at-found}
 use Rattle.cert_log.proofs.Putting.{Between, put_between, free_between, find_between}
-use Rattle.cert_log.proofs.SameTxn.{same_txn-eq, same_txn-swap}
+use Rattle.cert_log.proofs.SameTxn.{same_txn-eq}
+use Rattle.tcs_terms.proofs.RowLaws.{same_swap}
 
 -- ---- transactions that no row has
 
 rows_of_txn : (txn : TxId) (rows : List Row) → list_any (same_txn txn) (txns_of rows) ≡ list_any (λ r. same_txn r.entry.txn txn) rows
 rows_of_txn txn [] = refl
-rows_of_txn txn (r ∷ rows) = rw (same_txn-swap txn r.entry.txn, rows_of_txn txn rows) refl
+rows_of_txn txn (r ∷ rows) = rw (same_swap txn r.entry.txn, rows_of_txn txn rows) refl
 
 pub new_txn : (txn : TxId) (rows : List Row) → is_some (row_of rows txn) ≡ false → list_any (same_txn txn) (txns_of rows) ≡ false
 new_txn txn rows new = rows_of_txn txn rows ∙ sym (find_some (λ r. same_txn r.entry.txn txn) rows) ∙ new
@@ -79,7 +80,7 @@ new_at (r ∷ rows) (suc i) d differ within =
     let parts = and_parts (not (list_any (same_txn r.entry.txn) (txns_of rows))) (txns_differ (txns_of rows)) differ in
     let apart = not_at (same_txn r.entry.txn) rows i d (not-true _ parts.0) (omega arith) in
     or_from (same_txn (get_or rows i d).entry.txn r.entry.txn) (list_any (same_txn (get_or rows i d).entry.txn) (txns_of (take i rows)))
-    (same_txn-swap (get_or rows i d).entry.txn r.entry.txn ∙ apart) (new_at rows i d parts.1 (omega arith))
+    (same_swap (get_or rows i d).entry.txn r.entry.txn ∙ apart) (new_at rows i d parts.1 (omega arith))
 
 -- a row may stand after those before it
 pub next_between : (rows : List Row) (i : ℕ) (row : Row) → AreRows rows → i < length rows → row ≡ get_or rows i row → Between (take i rows) row []

@@ -14,7 +14,7 @@ use Rattle.tcs_terms.specs.Messages.{is_slot}
 use Rattle.tcs_laws.specs.Rows.{put_row}
 use Rattle.cert_log.specs.Places.{slots_of, txns_of}
 use Rattle.cert_log.proofs.Ascending.{is_below, is_above, tail_ascends}
-use Rattle.cert_log.proofs.SameTxn.{same_txn-swap}
+use Rattle.tcs_terms.proofs.RowLaws.{same_swap}
 
 -- ---- what a filter keeps
 
@@ -112,7 +112,7 @@ differ_between (r ∷ rest) row upper new differ =
     let apart = or_parts (same_txn row.entry.txn r.entry.txn) (list_any (same_txn row.entry.txn) (txns_of (rest ++ upper))) new in
     let parts = and_parts (not (list_any (same_txn r.entry.txn) (txns_of (rest ++ upper)))) (txns_differ (txns_of (rest ++ upper))) differ in
     and_from (not (list_any (same_txn r.entry.txn) (txns_of (rest ++ row ∷ upper)))) (txns_differ (txns_of (rest ++ row ∷ upper)))
-    (not_from_false _ (any_between r.entry.txn rest row upper (same_txn-swap r.entry.txn row.entry.txn ∙ apart.0) (not-true _ parts.0)))
+    (not_from_false _ (any_between r.entry.txn rest row upper (same_swap r.entry.txn row.entry.txn ∙ apart.0) (not-true _ parts.0)))
     (differ_between rest row upper apart.1 parts.1)
 
 pub rows_between : (lower : List Row) (row : Row) (upper : List Row) → Between lower row upper → AreRows (lower ++ upper) → AreRows (lower ++ row ∷ upper)

@@ -1,6 +1,6 @@
 -- Two transactions that a test takes for one are one, and each is one with itself.
-use Rattle.std.proofs.Common.{◌≡◌, true, ◌==◌, refl, inl, inr, eqb-true, eq-eqb}
-use Rattle.std.proofs.lemmas.Bool.{and_parts, and_from, cases_Bool}
+use Rattle.std.proofs.Common.{◌≡◌, true, ◌==◌, refl, eqb-true, eq-eqb}
+use Rattle.std.proofs.lemmas.Bool.{and_parts, and_from}
 use Rattle.tcs_terms.specs.declared.ids.TxId.{TxId}
 use Rattle.tcs_terms.specs.Logs.{same_txn}
 
@@ -13,13 +13,3 @@ same_txn-eq a b h =
 
 pub same_txn-self : (a : TxId) → same_txn a a ≡ true
 same_txn-self a = and_from (a.home == a.home) (a.seq == a.seq) (eq-eqb a.home a.home refl) (eq-eqb a.seq a.seq refl)
-
--- it does not matter which of two transactions comes first
-pub same_txn-swap : (a b : TxId) → same_txn a b ≡ same_txn b a
-same_txn-swap a b = elim (cases_Bool (same_txn a b)) [
-  | inl same ↦ let e = same_txn-eq a b same in let one = same_txn-self a in cc
-  | inr apart ↦ elim (cases_Bool (same_txn b a)) [
-    | inl same ↦ let e = same_txn-eq b a same in let one = same_txn-self a in cc
-    | inr other ↦ cc
-  ]
-]
