@@ -1,0 +1,5 @@
+//! A node that coordinates transactions: it asks the shards of each for their votes, has the followers accept them, and
+//! decides. The rules are after Bravo and Gotsman (PODC 2019).
+#![tactic(auto)]
+
+mod views;
