@@ -1,12 +1,12 @@
 -- Elements that ascend by a number: the place of the one with a given number.
-use Rattle.std.proofs.Common.{◌≡◌, ℕ, suc, ◌+◌, ◌-◌, ◌<◌, ◌≤◌, Bool, true, false, ◌&&◌, cond, List, [], ◌∷◌, length, map, get_or, Option, Some, None, refl, sym, ◌∙◌, ap, arith}
+use Rattle.std.proofs.Common.{◌≡◌, ℕ, suc, ◌+◌, ◌-◌, ◌<◌, ◌≤◌, Bool, true, false, cond, List, [], ◌∷◌, length, map, get_or, Some, None, refl, ◌∙◌, ap, arith}
 use Rattle.std.specs.Prelude.{◌==◌, nat_lt, find, if◌then◌else◌}
 use Rattle.std.specs.List.{slice_get, position_from, range_with_len}
 use Rattle.std.proofs.Math.ListN.{set}
 use Rattle.std.proofs.Math.Nat.{sub-zero}
 use Rattle.std.proofs.lemmas.Bool.{eqb-true}
 use Rattle.std.proofs.lemmas.Bool.Decides.{nat_tests}
-use Rattle.tcs_terms.specs.Order.{ascends, ascends_by}
+use Rattle.tcs_terms.specs.Order.{ascends}
 use Rattle.tcs_terms.proofs.BoolLaws.{left_of, right_of}
 
 module _ {X : Type 0} (key : X → ℕ) where

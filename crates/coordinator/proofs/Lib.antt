@@ -1,2 +1,3 @@
 pub mod ByKey
+pub mod PartLaws
 pub mod ViewLaws

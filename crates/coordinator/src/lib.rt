@@ -2,4 +2,6 @@
 //! decides. The rules are after Bravo and Gotsman (PODC 2019).
 #![tactic(auto)]
 
+mod cases;
+mod parts;
 mod views;

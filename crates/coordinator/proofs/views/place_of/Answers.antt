@@ -1,4 +1,4 @@
-use Rattle.std.proofs.Common.{◌≡◌, ◌-◌, ◌≤◌, ◌<◌, length, Some, sym, ◌∙◌, ap, ℕ, arith}
+use Rattle.std.proofs.Common.{◌≡◌, ◌-◌, arith}
 use Rattle.coordinator.proofs.ViewLaws.{place_is, no_place_at_zero, no_place_past}
 use Rattle.coordinator.proofs.views.place_of.Goals as goal
 

@@ -1,4 +1,4 @@
-use Rattle.std.proofs.Common.{◌≡◌, Some, None, sym, ◌∙◌, ap}
+use Rattle.std.proofs.Common.{◌≡◌, Some, None, sym}
 use Rattle.tcs_terms.specs.Places.{Membership}
 use Rattle.coordinator.specs.InOrder.{place_among}
 use Rattle.coordinator.proofs.ByKey.{no_place}
