@@ -1,3 +1,4 @@
 pub mod ByKey
+pub mod Followers
 pub mod PartLaws
 pub mod ViewLaws

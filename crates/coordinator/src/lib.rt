@@ -3,5 +3,7 @@
 #![tactic(auto)]
 
 mod cases;
+mod deciding;
 mod parts;
+mod sending;
 mod views;
