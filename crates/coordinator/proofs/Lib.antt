@@ -1,4 +1,5 @@
 pub mod ByKey
+pub mod EntryLaws
 pub mod Followers
 pub mod PartLaws
 pub mod ViewLaws

@@ -4,6 +4,7 @@
 
 mod cases;
 mod deciding;
+mod open_cases;
 mod parts;
 mod sending;
 mod views;
