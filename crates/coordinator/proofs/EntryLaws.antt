@@ -1,8 +1,8 @@
 -- Entries of a map: values that are changed one after the other, and one that is changed and then removed.
-use Rattle.std.proofs.Common.{◌≡◌, ℕ, zero, suc, ◌+◌, ◌<◌, ◌≤◌, Bool, true, false, cond, List, [], ◌∷◌, length, map, Option, Some, None, refl, sym, ◌∙◌, ap, arith, add-one}
+use Rattle.std.proofs.Common.{◌≡◌, ℕ, zero, suc, ◌+◌, ◌≤◌, Bool, true, false, cond, List, [], ◌∷◌, length, map, Some, refl, sym, ◌∙◌, ap, arith, add-one}
 use Rattle.std.specs.List.{slice_get}
 use Rattle.std.specs.Map.{lookup, set_value, remove_entry, values_of}
-use Rattle.std.specs.Layout.Columns.{set_value_at}
+use Rattle.indexmap.specs.IndexMap.{set_value_at}
 
 module _ {K X : Type 0} (f : X → X) where
   -- the entries with the first so many values changed
@@ -22,8 +22,10 @@ module _ {K X : Type 0} (f : X → X) where
   one_more (suc i) [] v h = absurd cc
   one_more (suc i) (e ∷ es) v h = ap (λ (rest : List (K × X)). (e.0, f e.1) ∷ rest) (one_more i es v h)
 
-  pub changed_one_more : (i : ℕ) (es : List (K × X)) (v : X) → slice_get (values_of (changed_until i es)) i ≡ Some v → set_value_at (changed_until i es) i (f v) ≡ changed_until (i + 1) es
-  changed_one_more i es v h = rw add-one (one_more i es v h)
+  pub changed_one_more : (i : ℕ) (es now : List (K × X)) (v w : X) → now ≡ changed_until i es → slice_get (values_of now) i ≡ Some v → w ≡ f v → set_value_at now i w ≡ changed_until (i + 1) es
+  changed_one_more i es now v w same h next =
+      let at : slice_get (values_of (changed_until i es)) i ≡ Some v = ap (λ (xs : List (K × X)). slice_get (values_of xs) i) (sym same) ∙ h in
+      ap (λ (xs : List (K × X)). set_value_at xs i w) same ∙ ap (set_value_at (changed_until i es) i) next ∙ rw add-one (one_more i es v at)
 
   pub all_changed : (i : ℕ) (es : List (K × X)) → length es ≤ i → changed_until i es ≡ map (λ e. (e.0, f e.1)) es
   all_changed zero [] h = refl

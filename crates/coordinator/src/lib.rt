@@ -3,8 +3,11 @@
 #![tactic(auto)]
 
 mod cases;
+mod coordinator;
 mod deciding;
 mod open_cases;
 mod parts;
 mod sending;
 mod views;
+
+pub use coordinator::Coordinator;

@@ -1,4 +1,4 @@
-use Rattle.std.proofs.Common.{◌≡◌, ◌++◌, take, length, map, filter, not}
+use Rattle.std.proofs.Common.{◌≡◌, ◌++◌, take, map, filter, not}
 use Rattle.std.specs.Prelude.{◌==◌}
 use Rattle.tcs_terms.specs.declared.messages.Message.TheVariants.{Accept}
 use Rattle.tcs_terms.specs.Places.{is_among}

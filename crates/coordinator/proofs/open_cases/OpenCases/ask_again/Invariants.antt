@@ -1,4 +1,4 @@
-use Rattle.std.proofs.Common.{◌≡◌, length}
+use Rattle.std.proofs.Common.{◌≡◌}
 use Rattle.protocol.specs.Coordination.{ask_again}
 use Rattle.coordinator.proofs.EntryLaws.{changed_until}
 use Rattle.coordinator.proofs.open_cases.OpenCases.ask_again.Given as goal
