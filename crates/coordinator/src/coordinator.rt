@@ -1,16 +1,17 @@
 //! The coordinator: its rules.
-ghost use Rattle.std.specs.Prelude.{◌≡◌, ◌==◌, ◌&&◌, ◌++◌, [], None, IfOk, OnOk, is_some};
+ghost use Rattle.std.specs.Prelude.{◌≡◌, ◌++◌, [], List, None, IfOk, OnOk, IsSome, is_some};
+ghost use Rattle.tcs_terms.specs.declared.messages.Outgoing.{Outgoing};
 ghost use Rattle.protocol.specs.Records as records;
-ghost use Rattle.protocol.specs.Coordination.{case_of, begin_case, take_over, resend, check_decision, on_prepare_ack, on_accept_ack, is_newer, on_config};
-ghost use Rattle.protocol.specs.Views.{view_epoch};
+ghost use Rattle.protocol.specs.Coordination.{case_of, begin_case, take_over, resend, with_case, check_decision, on_prepare_ack, on_accept_ack, is_newer, on_config};
+ghost use Rattle.protocol.specs.Views.{view_of, view_epoch};
+ghost use Rattle.coordinator.specs.Acknowledged.{part_in, both_pass, takes_vote, takes_ack};
 ghost use Rattle.coordinator.specs.InOrder.{AreViews};
 
 use crate::cases::Case;
 use crate::deciding::{decision_of, is_complete, tell_decision};
 use crate::open_cases::OpenCases;
-use crate::parts::Part;
-use crate::sending::{send_case, send_part};
-use crate::views::Views;
+use crate::sending::send_case;
+use crate::views::{Views, is_follower};
 use answers::refusal;
 use std::alloc::Global;
 use std::marker::Model;
@@ -119,6 +120,117 @@ impl Coordinator {
         ensures { OnOk result (out.new.items ≡ out.old.items ++ resend self.now) }
     {
         self.cases.resend(alloc, &self.views, out)
+    }
+
+    /// Whether an answer to PREPARE acts: it is of the leader of the shard's view, at its epoch, and its slot fits.
+    fn takes_vote(&self, from: NodeId, shard: ShardId, epoch: Epoch, entry: &Entry) -> bool
+        ensures { result ≡ both_pass (takes_vote from epoch entry.now.slot)
+            (part_in self.now.cases entry.now.txn shard) (view_of self.now.views shard) }
+    {
+        match (self.cases.part_of(entry.txn, shard), self.views.of(shard)) {
+            (Some(part), Some(view)) => {
+                view.epoch() == epoch && view.leader() == from && part.fits_slot(entry.slot)
+            }
+            _ => false,
+        }
+    }
+
+    /// Whether an answer to ACCEPT acts: it is of a follower of the shard's view, at its epoch, and of the voted entry's
+    /// slot.
+    fn takes_ack(
+        &self,
+        from: NodeId,
+        shard: ShardId,
+        epoch: Epoch,
+        slot: Slot,
+        txn: TxId,
+    ) -> bool
+        ensures { result ≡ both_pass (takes_ack from epoch slot) (part_in self.now.cases txn shard) (view_of self.now.views shard) }
+    {
+        match (self.cases.part_of(txn, shard), self.views.of(shard)) {
+            (Some(part), Some(view)) => {
+                view.epoch() == epoch && is_follower(view, from) && part.is_voted_at(slot)
+            }
+            _ => false,
+        }
+    }
+
+    /// After a case went on: where it is complete, the decision is noted and told, and the case is closed.
+    #[tactic(auto, unfolding(protocol::specs::Coordination::check_decision, protocol::specs::Choices::when))]
+    fn check_decision(
+        &mut self,
+        txn: TxId,
+        out: &mut Vec<Outgoing>,
+        notes: &mut Vec<Note>,
+    ) -> Result<(), OutOfMemory>
+        ensures kept { (c : records.Coordinator) (case : records.Case) (sends : List Outgoing)
+            → self.old ≡ with_case c txn case → IsSome (case_of c txn)
+            → OnOk result (self.new ≡ (check_decision c txn case sends).kept) }
+        ensures sends { (c : records.Coordinator) (case : records.Case) (before sends : List Outgoing)
+            → self.old ≡ with_case c txn case → IsSome (case_of c txn) → out.old.items ≡ before ++ sends
+            → OnOk result (out.new.items ≡ before ++ (check_decision c txn case sends).sends) }
+        ensures notes { (c : records.Coordinator) (case : records.Case) (sends : List Outgoing)
+            → self.old ≡ with_case c txn case → IsSome (case_of c txn)
+            → OnOk result (notes.new.items ≡ notes.old.items ++ (check_decision c txn case sends).notes) }
+    {
+        if let Some(case) = self.cases.of(txn) {
+            if is_complete(&self.views, case) {
+                let decision = decision_of(&case.parts);
+                tell_decision(&self.views, txn, &case.parts, decision, out)?;
+                notes.push(Note::Decide { txn, decision })?;
+                self.cases.close(txn);
+            }
+        }
+        Ok(())
+    }
+
+    /// PREPARE_ACK: an asked shard becomes voted; ACCEPT of its entry goes to each follower that has not acknowledged it.
+    pub fn on_prepare_ack(
+        &mut self,
+        alloc: Global,
+        from: NodeId,
+        shard: ShardId,
+        epoch: Epoch,
+        entry: &Entry,
+        out: &mut Vec<Outgoing>,
+        notes: &mut Vec<Note>,
+    ) -> Result<Handled, OutOfMemory>
+        ensures answer { IfOk result (λ h. h ≡ (on_prepare_ack self.old from shard epoch entry.now).answer) }
+        ensures kept { OnOk result (self.new ≡ (on_prepare_ack self.old from shard epoch entry.now).kept) }
+        ensures sends { OnOk result (out.new.items ≡ out.old.items ++ (on_prepare_ack self.old from shard epoch entry.now).sends) }
+        ensures notes { OnOk result (notes.new.items ≡ notes.old.items ++ (on_prepare_ack self.old from shard epoch entry.now).notes) }
+    {
+        if !self.takes_vote(from, shard, epoch, entry) {
+            return Ok(refusal(epoch, self.views.epoch(shard)));
+        }
+        self.cases.vote(alloc, shard, entry)?;
+        self.cases.send_part(alloc, &self.views, entry.txn, shard, out)?;
+        self.check_decision(entry.txn, out, notes)?;
+        Ok(Handled::Acted)
+    }
+
+    /// ACCEPT_ACK: the acknowledgement of a follower is kept.
+    pub fn on_accept_ack(
+        &mut self,
+        from: NodeId,
+        shard: ShardId,
+        epoch: Epoch,
+        slot: Slot,
+        txn: TxId,
+        out: &mut Vec<Outgoing>,
+        notes: &mut Vec<Note>,
+    ) -> Result<Handled, OutOfMemory>
+        ensures answer { IfOk result (λ h. h ≡ (on_accept_ack self.old from shard epoch slot txn).answer) }
+        ensures kept { OnOk result (self.new ≡ (on_accept_ack self.old from shard epoch slot txn).kept) }
+        ensures sends { OnOk result (out.new.items ≡ out.old.items ++ (on_accept_ack self.old from shard epoch slot txn).sends) }
+        ensures notes { OnOk result (notes.new.items ≡ notes.old.items ++ (on_accept_ack self.old from shard epoch slot txn).notes) }
+    {
+        if !self.takes_ack(from, shard, epoch, slot, txn) {
+            return Ok(refusal(epoch, self.views.epoch(shard)));
+        }
+        self.cases.acknowledge(txn, shard, from)?;
+        self.check_decision(txn, out, notes)?;
+        Ok(Handled::Acted)
     }
 
     /// CONFIG_CHANGE: a newer configuration replaces the view of its shard; each case that has the shard asks the new

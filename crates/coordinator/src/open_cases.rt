@@ -3,11 +3,14 @@ ghost use Rattle.std.specs.Prelude.{◌≡◌, [], ◌∷◌, ◌++◌, None, So
 ghost use Rattle.std.specs.Map.{lookup, set_value, remove_entry};
 ghost use Rattle.tcs_terms.specs.Logs.{same_txn};
 ghost use Rattle.protocol.specs.Records as records;
-ghost use Rattle.protocol.specs.Cases.{part_of, prepare, send_case};
+ghost use Rattle.protocol.specs.Cases.{part_of, prepare, send_part, send_case};
 ghost use Rattle.protocol.specs.Coordination.{voted, acknowledged, with_part, ask_again, has_part};
+ghost use Rattle.protocol.specs.Views.{view_of};
+ghost use Rattle.coordinator.specs.Acknowledged.{part_in};
 
 use crate::cases::Case;
-use crate::sending::{push_prepare, send_case};
+use crate::parts::Part;
+use crate::sending::{push_prepare, send_case, send_part};
 use crate::views::Views;
 use indexmap::IndexMap;
 use std::alloc::Global;
@@ -44,6 +47,16 @@ impl OpenCases {
         ensures { option_copied result ≡ lookup (same_txn txn) self.now }
     {
         self.by_txn.get(&txn)
+    }
+
+    /// The part of a shard of a transaction's case, if there is the case and it has the shard.
+    pub(crate) fn part_of(&self, txn: TxId, shard: ShardId) -> Option<&Part>
+        ensures { option_copied result ≡ part_in self.now txn shard }
+    {
+        match self.of(txn) {
+            None => None,
+            Some(case) => case.part_of(shard),
+        }
     }
 
     /// Opens a case, behind the others.
@@ -94,6 +107,29 @@ impl OpenCases {
             case.acknowledge(shard, from)?;
         }
         Ok(())
+    }
+
+    /// What a shard of a case still waits for is sent again.
+    pub(crate) fn send_part(
+        &self,
+        alloc: Global,
+        views: &Views,
+        txn: TxId,
+        shard: ShardId,
+        out: &mut Vec<Outgoing>,
+    ) -> Result<(), OutOfMemory>
+        ensures { (case : records.Case) (part : records.Part)
+            → lookup (same_txn txn) self.now ≡ Some case → part_of case.parts shard ≡ Some part
+            → OnOk result (out.new.items ≡ out.old.items
+                ++ send_part (length views.now) txn case part.entry part.acks (view_of views.now part.shard)) }
+    {
+        match self.of(txn) {
+            None => Ok(()),
+            Some(case) => match case.part_of(shard) {
+                None => Ok(()),
+                Some(part) => send_part(alloc, views, txn, case, part, out),
+            },
+        }
     }
 
     /// A shard got a new view: each case that has it asks it again.

@@ -1,11 +1,11 @@
 //! The configurations that a node has seen last, one for each shard.
 ghost use Rattle.std.specs.Prelude.{◌≡◌, ◌<◌, ◌≤◌, length, option_copied, IfSome};
 ghost use Rattle.tcs_terms.specs.declared.limits.TheConstants.{MAX_SHARDS};
-ghost use Rattle.protocol.specs.Views.{view_of, view_epoch, is_older, replaced};
+ghost use Rattle.protocol.specs.Views.{view_of, view_epoch, is_follower, is_older, replaced};
 ghost use Rattle.coordinator.specs.InOrder.{AreViews, place_among};
 
 use std::marker::Model;
-use tcs_terms::{Config, Epoch, ShardId};
+use tcs_terms::{Config, Epoch, NodeId, ShardId};
 
 /// One view for each shard, shard 1 first, so that a shard's is found by its place. Seen as their list.
 #[derive(Debug, Drop)]
@@ -100,4 +100,11 @@ fn place_of(list: &[Config], shard: ShardId) -> Option<usize>
     }
     let at = usize::from(shard) - 1;
     if at < list.len() { Some(at) } else { None }
+}
+
+/// Whether a node is a member that does not lead.
+pub(crate) fn is_follower(view: &Config, node: NodeId) -> bool
+    ensures { result ≡ is_follower view.now node }
+{
+    view.members().contains(&node) && node != view.leader()
 }
