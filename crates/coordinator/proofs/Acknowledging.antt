@@ -1,11 +1,8 @@
 -- The rules about acknowledgements, by whether they act.
-use Rattle.std.proofs.Common.{◌≡◌, ℕ, Bool, true, false, ◌&&◌, cond, List, [], ◌∷◌, ◌++◌, map, Option, Some, None, refl, sym, ◌∙◌, ap, eq-eqb}
+use Rattle.std.proofs.Common.{◌≡◌, ℕ, Bool, true, false, cond, List, [], ◌∷◌, map, Option, Some, None, refl, ap, eq-eqb}
 use Rattle.std.specs.Prelude.{◌==◌, find, option_and_then, if◌then◌else◌}
 use Rattle.tcs_terms.specs.declared.ids.TxId.{TxId}
-use Rattle.tcs_terms.specs.declared.messages.Outgoing.{Outgoing}
-use Rattle.tcs_terms.specs.Logs.{same_txn}
 use Rattle.tcs_terms.specs.Places.{Membership}
-use Rattle.tcs_terms.specs.Preparations.{Preparation}
 use Rattle.protocol.specs.Choices.{when}
 use Rattle.protocol.specs.Outcomes.{Out, refuses}
 use Rattle.protocol.specs.Records.{Part, Case, Coordinator}
@@ -81,6 +78,7 @@ found_after_put_at shard k new [] was same own h = absurd cc
 found_after_put_at shard k new (p ∷ ps) was same own h = go (p.shard == shard) refl (found_after_put_at shard k new ps was same own) h where
   tests : (p.shard == k) ≡ (p.shard == shard)
   tests = ap (λ (n : ℕ). p.shard == n) same
+
   go : (b : Bool) → (p.shard == shard) ≡ b
       → (part_of ps shard ≡ Some was → find (λ p. p.shard == shard) (map (λ x. if x.shard == k then new else x) ps) ≡ Some new)
       → cond b (Some p) (part_of ps shard) ≡ Some was

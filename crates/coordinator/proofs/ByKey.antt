@@ -42,23 +42,27 @@ module _ {X : Type 0} (key : X → ℕ) where
         let here : i ≡ at = cc in
         let first : at - i ≡ 0 = omega arith in
         let own : key x ≡ k = eqb-true (key x) k same in
-        let low : k ≤ key x = omega arith in
-        (omega arith, record {
-          within = omega arith;
-          own = λ d. rw first own;
-          found = rw (first, same) refl;
-          put = λ y. rw (first, same) (ap (λ (zs : List X). y ∷ zs) (unchanged_above k (key x) y xs low h));
-        })
+        let low : k ≤ key x = omega arith in (
+          omega arith,
+          record {
+            within = omega arith;
+            own = λ d. rw first own;
+            found = rw (first, same) refl;
+            put = λ y. rw (first, same) (ap (λ (zs : List X). y ∷ zs) (unchanged_above k (key x) y xs low h));
+          },
+        )
     go false other more found =
         let rest = more found in
         let from : i + 1 ≤ at = rest.0 in
-        let next : at - i ≡ suc (at - (i + 1)) = omega arith in
-        (omega arith, record {
-          within = omega (arith, rest.1.within);
-          own = λ d. rw next (rest.1.own d);
-          found = rw (next, other) rest.1.found;
-          put = λ y. rw (next, other) (ap (λ (zs : List X). x ∷ zs) (rest.1.put y));
-        })
+        let next : at - i ≡ suc (at - (i + 1)) = omega arith in (
+          omega arith,
+          record {
+            within = omega (arith, rest.1.within);
+            own = λ d. rw next (rest.1.own d);
+            found = rw (next, other) rest.1.found;
+            put = λ y. rw (next, other) (ap (λ (zs : List X). x ∷ zs) (rest.1.put y));
+          },
+        )
 
   pub place : (k at : ℕ) (xs : List X) → ascends (map key xs) ≡ true → position_from (λ x. key x == k) 0 xs ≡ Some at → HasPlace k at xs
   place k at xs h e = rw sub-zero at ((place_from k 0 at xs h e).1)
@@ -91,6 +95,7 @@ module _ {X : Type 0} (key : X → ℕ) where
   own_place k i a (x ∷ xs) e low high = go (key x == k) refl (own_place k (i + 1) (a + 1) xs (other_keys a x xs e)) where
     head : key x ≡ a
     head = first_key a x xs e
+
     go : (b : Bool) → (key x == k) ≡ b
         → (a + 1 ≤ k → k < a + 1 + length xs → position_from (λ x. key x == k) (i + 1) xs ≡ Some (i + 1 + (k - (a + 1))))
         → cond b (Some i) (position_from (λ x. key x == k) (i + 1) xs) ≡ Some (i + (k - a))

@@ -1,16 +1,17 @@
 -- A case that went on, and is closed where it is complete.
-use Rattle.std.proofs.Common.{◌≡◌, ℕ, Bool, true, false, List, [], ◌∷◌, ◌++◌, Option, Some, None, refl, sym, ◌∙◌, ap}
+use Rattle.std.proofs.Common.{◌≡◌, Bool, true, false, List, [], ◌∷◌, ◌++◌, Option, Some, None, refl}
 use Rattle.std.specs.Option.{IsSome}
 use Rattle.std.specs.Map.{lookup, remove_entry}
 use Rattle.tcs_terms.specs.declared.ids.TxId.{TxId}
+use Rattle.tcs_terms.specs.declared.inputs.Handled.TheVariants.{Acted}
 use Rattle.tcs_terms.specs.declared.inputs.Note.TheVariants as notes
 use Rattle.tcs_terms.specs.declared.messages.Outgoing.{Outgoing}
 use Rattle.tcs_terms.specs.Logs.{same_txn}
 use Rattle.protocol.specs.Choices.{when}
-use Rattle.protocol.specs.Outcomes.{Out, tells, acts}
+use Rattle.protocol.specs.Outcomes.{tells, acts}
 use Rattle.protocol.specs.Records.{Case, Coordinator}
 use Rattle.protocol.specs.Cases.{is_complete, decision_of, tell_decision}
-use Rattle.protocol.specs.Coordination.{case_of, with_case, check_decision}
+use Rattle.protocol.specs.Coordination.{case_of, with_case, without_case, check_decision}
 use Rattle.coordinator.proofs.EntryLaws.{found_after_set, removed_after_set}
 
 -- the coordinator with the case of a transaction closed
@@ -47,3 +48,13 @@ one_value (Some x) a b e f = cc
 pub no_value : {X : Type 0} (o : Option X) (b : X) → None ≡ o → o ≡ Some b → ⊥
 no_value None b e f = absurd cc
 no_value (Some x) b e f = absurd cc
+
+-- the rule acts, whether or not the case is closed
+pub always_acts : (c : Coordinator) (txn : TxId) (case : Case) (sends : List Outgoing) → (check_decision c txn case sends).answer ≡ Acted
+unfolding check_decision when
+always_acts c txn case sends = go (is_complete c.views case) where
+  go : (b : Bool)
+      → (when b (tells (without_case c txn) (sends ++ tell_decision c.views txn case.parts (decision_of case.parts)) (notes.Decide txn (decision_of case.parts) ∷ []))
+      (acts (with_case c txn case) sends)).answer ≡ Acted
+  go true = refl
+  go false = refl

@@ -1,4 +1,5 @@
 pub mod Acknowledging
+pub mod Answered
 pub mod ByKey
 pub mod Closing
 pub mod EntryLaws

@@ -137,14 +137,7 @@ impl Coordinator {
 
     /// Whether an answer to ACCEPT acts: it is of a follower of the shard's view, at its epoch, and of the voted entry's
     /// slot.
-    fn takes_ack(
-        &self,
-        from: NodeId,
-        shard: ShardId,
-        epoch: Epoch,
-        slot: Slot,
-        txn: TxId,
-    ) -> bool
+    fn takes_ack(&self, from: NodeId, shard: ShardId, epoch: Epoch, slot: Slot, txn: TxId) -> bool
         ensures { result ≡ both_pass (takes_ack from epoch slot) (part_in self.now.cases txn shard) (view_of self.now.views shard) }
     {
         match (self.cases.part_of(txn, shard), self.views.of(shard)) {
@@ -204,7 +197,8 @@ impl Coordinator {
             return Ok(refusal(epoch, self.views.epoch(shard)));
         }
         self.cases.vote(alloc, shard, entry)?;
-        self.cases.send_part(alloc, &self.views, entry.txn, shard, out)?;
+        self.cases
+            .send_part(alloc, &self.views, entry.txn, shard, out)?;
         self.check_decision(entry.txn, out, notes)?;
         Ok(Handled::Acted)
     }

@@ -10,13 +10,17 @@ ghost use Rattle.protocol.specs.Views.{view_of};
 use crate::cases::Case;
 use crate::parts::Part;
 use crate::views::Views;
-use tcs_terms::{Cause, Config, Decision, Message, NodeId, OutOfMemory, Outgoing, ShardId, Slot, TxId, Vote};
+use tcs_terms::{
+    Cause, Config, Decision, Message, NodeId, OutOfMemory, Outgoing, ShardId, Slot, TxId, Vote,
+};
 
 /// Whether each of these nodes leads or has acknowledged.
 fn each_leads_or_acknowledges(nodes: &[NodeId], leader: NodeId, acks: &[NodeId]) -> bool
     ensures { result ≡ list_all (λ node. (node == leader) || is_among acks.now node) nodes.now }
 {
-    nodes.iter().all(|node| *node == leader || acks.contains(node))
+    nodes
+        .iter()
+        .all(|node| *node == leader || acks.contains(node))
 }
 
 /// Whether each follower has acknowledged.

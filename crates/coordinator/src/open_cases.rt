@@ -121,7 +121,7 @@ impl OpenCases {
         ensures { (case : records.Case) (part : records.Part)
             → lookup (same_txn txn) self.now ≡ Some case → part_of case.parts shard ≡ Some part
             → OnOk result (out.new.items ≡ out.old.items
-                ++ send_part (length views.now) txn case part.entry part.acks (view_of views.now part.shard)) }
+            ++ send_part (length views.now) txn case part.entry part.acks (view_of views.now part.shard)) }
     {
         match self.of(txn) {
             None => Ok(()),

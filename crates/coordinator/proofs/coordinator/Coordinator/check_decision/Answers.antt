@@ -1,9 +1,9 @@
-use Rattle.std.proofs.Common.{◌≡◌, true, false, List, ◌++◌, ◌∷◌, [], Some, sym, ◌∙◌, ap, append_assoc}
+use Rattle.std.proofs.Common.{◌≡◌, true, false, sym, ◌∙◌, ap, append_assoc}
 use Rattle.std.proofs.lemmas.List.{append-nil}
 use Rattle.std.specs.Map.{lookup}
 use Rattle.tcs_terms.specs.Logs.{same_txn}
-use Rattle.protocol.specs.Records.{Part, Case, Coordinator}
-use Rattle.protocol.specs.Cases.{is_complete, decision_of, tell_decision}
+use Rattle.protocol.specs.Records.{Case}
+use Rattle.protocol.specs.Cases.{is_complete, decision_of}
 use Rattle.coordinator.specs.contracts.coordinator.Coordinator.{the_view}
 use Rattle.coordinator.proofs.Closing.{checked, one_value, no_value}
 use Rattle.coordinator.proofs.coordinator.Coordinator.check_decision.Goals as goal
