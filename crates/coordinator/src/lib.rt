@@ -8,6 +8,8 @@ mod deciding;
 mod open_cases;
 mod parts;
 mod sending;
+#[cfg(test)]
+mod tests;
 mod views;
 
 pub use coordinator::Coordinator;
