@@ -77,7 +77,7 @@ impl Coordinator {
         self.cases.of(txn).is_some()
     }
 
-    /// A case of a new transaction: PREPARE to the leader of each of its shards.
+    /// A case of a new transaction: PREPARE to the leader of each of its shards. No case of it is open (`has_case`).
     #[tactic(auto, unfolding(protocol::specs::Coordination::begin_case))]
     pub fn begin_case(
         &mut self,
@@ -96,7 +96,8 @@ impl Coordinator {
         self.cases.open(txn, case)
     }
 
-    /// A case of a transaction that is taken over: PREPARE without payload to the leader of each of its shards.
+    /// A case of a transaction that is taken over: PREPARE without payload to the leader of each of its shards. No case of
+    /// it is open.
     #[tactic(auto, unfolding(protocol::specs::Coordination::take_over))]
     pub fn take_over(
         &mut self,

@@ -65,14 +65,14 @@ returns-else-is_complete-clause-notes c = λ old case sends same some.
 pub returns-in_default-clause-kept : goal.returns-in_default-clause-kept
 returns-in_default-clause-kept c = λ old case sends same some.
     let k = checked (the_view c.self.inside) old c.args.txn case (c.self.view_is ∙ same) some in
-    absurd (no_value (lookup (same_txn c.args.txn) c.self.inside.cases) case c.in_default.ensures k.found)
+    elim (no_value (lookup (same_txn c.args.txn) c.self.inside.cases) case c.in_default.ensures k.found) [ ]
 
 pub returns-in_default-clause-sends : goal.returns-in_default-clause-sends
 returns-in_default-clause-sends c = λ old case before sends same some earlier.
     let k = checked (the_view c.self.inside) old c.args.txn case (c.self.view_is ∙ same) some in
-    absurd (no_value (lookup (same_txn c.args.txn) c.self.inside.cases) case c.in_default.ensures k.found)
+    elim (no_value (lookup (same_txn c.args.txn) c.self.inside.cases) case c.in_default.ensures k.found) [ ]
 
 pub returns-in_default-clause-notes : goal.returns-in_default-clause-notes
 returns-in_default-clause-notes c = λ old case sends same some.
     let k = checked (the_view c.self.inside) old c.args.txn case (c.self.view_is ∙ same) some in
-    absurd (no_value (lookup (same_txn c.args.txn) c.self.inside.cases) case c.in_default.ensures k.found)
+    elim (no_value (lookup (same_txn c.args.txn) c.self.inside.cases) case c.in_default.ensures k.found) [ ]
