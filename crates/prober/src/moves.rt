@@ -15,9 +15,7 @@ use crate::stages::Stage;
 use answers::refusal;
 use std::alloc::Global;
 use std::mem;
-use tcs_terms::{
-    Config, Epoch, Handled, NodeId, OutOfMemory, Outgoing, ShardId, Wanted, is_among,
-};
+use tcs_terms::{Config, Epoch, Handled, NodeId, OutOfMemory, Outgoing, ShardId, Wanted, is_among};
 
 /// The members of a configuration are probed for an epoch; what the move wants is taken over.
 fn probing(
