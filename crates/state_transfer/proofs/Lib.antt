@@ -1,0 +1,9 @@
+pub mod Chains
+pub mod Wholeness
+pub mod LogParts
+pub mod Ends
+pub mod Parting
+pub mod Fitting
+pub mod KeptRows
+pub mod Taking
+pub mod SentMessages
