@@ -1,0 +1,9 @@
+//! What a node does in its own shard: preparing, accepting, marking, promising, and becoming leader or follower of a new
+//! configuration.
+#![tactic(auto)]
+
+mod promising;
+mod replicas;
+mod roles;
+
+pub use replicas::Replica;
