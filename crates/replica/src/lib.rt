@@ -5,5 +5,6 @@
 mod promising;
 mod replicas;
 mod roles;
+mod shard_logs;
 
 pub use replicas::Replica;

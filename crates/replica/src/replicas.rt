@@ -8,13 +8,13 @@ ghost use Rattle.protocol.specs.World.{first_role, first_node_as};
 ghost use Rattle.replica.specs.Replicas.{within};
 
 use crate::roles::Role;
-use cert_log::CertLog;
+use crate::shard_logs::ShardLog;
 use state_transfer::Gathering;
 use std::alloc::Global;
 use std::marker::Model;
 use tcs_laws::VoteGuard;
 use tcs_terms::{Config, Epoch, Name, NodeId, OutOfMemory, Row, ShardId, TxId};
-use version_store::{Reading, VersionStore};
+use version_store::Reading;
 
 /// What a node keeps for its own shard, with a log whose votes are given by a guard `G`. Each rule appends what it sends
 /// to what it is given. After an error the replica is to be dropped.
@@ -27,16 +27,14 @@ pub struct Replica<G: VoteGuard> {
     pub(crate) state: Epoch,
     /// The greatest epoch that the node promised.
     pub(crate) promised: Epoch,
-    pub(crate) log: CertLog<G>,
-    /// The committed writes of the log's rows.
-    pub(crate) versions: VersionStore,
+    pub(crate) log: ShardLog<G>,
     pub(crate) gathering: Option<Gathering>,
 }
 
 impl<G: VoteGuard> Model for Replica<G> {
     ghost use Rattle.replica.specs.Replicas.{ReplicaState};
     ghost use Rattle.replica.specs.Roles.{role_of};
-    ghost use Rattle.replica.specs.Soundness.{IsSound};
+    ghost use Rattle.replica.specs.Soundness.{AreReached};
 
     ghost Value = { ReplicaState };
 
@@ -50,7 +48,7 @@ impl<G: VoteGuard> Model for Replica<G> {
       gathering = r.gathering;
     } };
 
-    ghost invariant = { λ r. IsSound r.versions r.log r.state r.promised };
+    ghost invariant = { λ r. AreReached r.state r.promised };
 }
 
 impl<G: VoteGuard> Replica<G> {
@@ -73,8 +71,7 @@ impl<G: VoteGuard> Replica<G> {
             role,
             state: epoch,
             promised: epoch,
-            log: CertLog::new(alloc),
-            versions: VersionStore::new(alloc),
+            log: ShardLog::new(alloc),
             gathering: None,
         })
     }
@@ -117,6 +114,6 @@ impl<G: VoteGuard> Replica<G> {
         ensures version { result.version ≡ (read_of self.now.rows name.now).version }
         ensures value { option_copied result.value ≡ (read_of self.now.rows name.now).value }
     {
-        self.versions.read(name)
+        self.log.read(name)
     }
 }
