@@ -1,3 +1,3 @@
 pub mod Marking
 pub mod Standing
-pub mod Rules
+pub mod Preparing

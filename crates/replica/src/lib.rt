@@ -2,6 +2,9 @@
 //! configuration.
 #![tactic(auto)]
 
+mod accepting;
+mod deciding;
+mod preparing;
 mod promising;
 mod replicas;
 mod roles;
