@@ -1,3 +1,4 @@
 pub mod Marking
 pub mod Standing
-pub mod Preparing
+pub mod PrepareRule
+pub mod DecisionRule

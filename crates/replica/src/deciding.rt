@@ -32,7 +32,7 @@ impl<G: VoteGuard> Replica<G> {
     ) -> Result<Handled, OutOfMemory>
         ensures answer { (node : NodeRecord) → IfOk result (λ h. h ≡ (on_decision (within node self.old) epoch slot txn commit).answer) }
         ensures kept { (node : NodeRecord) → OnOk result (within node self.new ≡ (on_decision (within node self.old) epoch slot txn commit).kept) }
-        ensures sends { (node : NodeRecord) → (on_decision (within node self.old) epoch slot txn commit).sends ≡ [] }
+        ensures sends { (node : NodeRecord) → OnOk result ((on_decision (within node self.old) epoch slot txn commit).sends ≡ []) }
     {
         if !self.may_mark(epoch, slot, txn) {
             return Ok(refusal(epoch, self.state));

@@ -4,6 +4,8 @@
 
 mod accepting;
 mod deciding;
+mod following;
+mod leading;
 mod preparing;
 mod promising;
 mod replicas;

@@ -79,17 +79,16 @@ impl<G: VoteGuard> Replica<G> {
         if !self.may_prepare(epoch, shards) {
             return Ok(refusal(epoch, self.promised));
         }
-        match prepared(alloc, &mut self.log, txn, shards, part)? {
-            None => Ok(Handled::Full),
-            Some(entry) => {
-                let message = Message::PrepareAck {
-                    shard: self.shard,
-                    epoch,
-                    entry,
-                };
-                out.push(Outgoing { to: from, message })?;
-                Ok(Handled::Acted)
-            }
-        }
+        let entry = match prepared(alloc, &mut self.log, txn, shards, part)? {
+            None => return Ok(Handled::Full),
+            Some(entry) => entry,
+        };
+        let message = Message::PrepareAck {
+            shard: self.shard,
+            epoch,
+            entry,
+        };
+        out.push(Outgoing { to: from, message })?;
+        Ok(Handled::Acted)
     }
 }

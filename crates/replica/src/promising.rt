@@ -14,7 +14,7 @@ use tcs_terms::{Epoch, Handled, Message, NodeId, OutOfMemory, Outgoing};
 
 impl<G: VoteGuard> Replica<G> {
     /// The least epoch that the node may still promise or reach.
-    fn least(&self) -> Epoch
+    pub(crate) fn least(&self) -> Epoch
         ensures { (node : NodeRecord) → result ≡ least (within node self.now) }
     {
         self.promised.max(self.state + 1)
