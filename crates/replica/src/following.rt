@@ -1,17 +1,16 @@
 //! A node becomes follower of a configuration, with its leader's rows.
-ghost use Rattle.std.specs.Prelude.{◌≡◌, ◌&&◌, ◌==◌, ◌≤◌, [], IfOk, OnOk};
+ghost use Rattle.std.specs.Prelude.{◌≡◌, ◌&&◌, ◌==◌, ◌≤◌, [], None, Some, IfOk, OnOk};
 ghost use Rattle.tcs_terms.specs.Logs.{AreRows};
-ghost use Rattle.tcs_terms.specs.declared.logs.Row.{Row as LogRow};
 ghost use Rattle.protocol.specs.Pieces.{takes_piece};
 ghost use Rattle.protocol.specs.Records.{NodeRecord, Piece};
-ghost use Rattle.protocol.specs.ShardRules.{may_follow, follows, on_new_state, on_state_piece};
+ghost use Rattle.protocol.specs.ShardRules.{may_follow, follows, gathers, on_new_state, on_state_piece};
 ghost use Rattle.replica.specs.Replicas.{within};
 
 use crate::replicas::Replica;
-use crate::roles::{Role, is_among};
+use crate::roles::{Role, is_follower};
 use crate::shard_logs::ShardLog;
 use answers::refusal;
-use state_transfer::{drop_below, gather, push_copies, takes_piece};
+use state_transfer::{Gathering, drop_below, gather, push_copies, takes_piece};
 use std::alloc::Global;
 use tcs_laws::VoteGuard;
 use tcs_terms::{Config, Handled, OutOfMemory, Row, Rows};
@@ -39,8 +38,31 @@ impl<G: VoteGuard> Replica<G> {
     {
         config.shard() == self.shard
             && self.least() <= config.epoch()
-            && is_among(config.members(), self.name)
-            && self.name != config.leader()
+            && is_follower(config, self.name)
+    }
+
+    /// Whether a whole state of this configuration may be taken.
+    fn may_take_whole(&self, version: u8, config: &Config) -> bool
+        ensures { (node : NodeRecord) → result ≡ ((version == 1) && may_follow (within node self.now) config.now) }
+    {
+        version == WHOLE && self.may_follow(config)
+    }
+
+    /// Whether a piece of a state of this configuration may be taken.
+    fn may_take_piece(
+        &self,
+        version: u8,
+        config: &Config,
+        pieces: u16,
+        number: u16,
+        rows: &Rows,
+    ) -> bool
+        ensures { (node : NodeRecord) → result ≡ ((version == 2) && may_follow (within node self.now) config.now
+            && takes_piece self.now.gathering config.now pieces (record { number = number; rows = rows.now })) }
+    {
+        version == IN_PIECES
+            && self.may_follow(config)
+            && takes_piece(&self.gathering, config, pieces, number, rows)
     }
 
     /// The node follows a configuration, with these rows of its leader.
@@ -68,12 +90,60 @@ impl<G: VoteGuard> Replica<G> {
         ensures kept { (node : NodeRecord) → OnOk result (within node self.new ≡ (on_new_state version (within node self.old) config.now rows.now).kept) }
         ensures sends { (node : NodeRecord) → OnOk result ((on_new_state version (within node self.old) config.now rows.now).sends ≡ []) }
     {
-        if version != WHOLE || !self.may_follow(config) {
+        if !self.may_take_whole(version, config) {
             return Ok(refusal(config.epoch(), self.least()));
         }
         let rows = copied(alloc, rows)?;
         drop_below(&mut self.gathering, config.epoch());
         self.follow(alloc, config, rows)?;
+        Ok(Handled::Acted)
+    }
+
+    /// The node goes on with what it gathered for a configuration: it follows once every piece is there.
+    #[tactic(auto, unfolding(protocol::specs::Choices::when))]
+    fn go_on(
+        &mut self,
+        alloc: Global,
+        config: &Config,
+        gathering: Gathering,
+    ) -> Result<(), OutOfMemory>
+        requires { self.old.gathering ≡ None }
+        ensures { (node : NodeRecord) → OnOk result (within node self.new ≡ (gathers (within node self.old) config.now gathering).kept) }
+    {
+        if gathering.is_whole() {
+            let rows = gathering.into_rows(alloc)?;
+            return self.follow(alloc, config, rows);
+        }
+        self.gathering = Some(gathering);
+        Ok(())
+    }
+
+    /// STATE_PIECE, under version 2: the piece of this number, of so many pieces, is added to what is gathered for its
+    /// configuration, and the node becomes follower once all are there. Nothing is sent.
+    pub fn state_piece(
+        &mut self,
+        alloc: Global,
+        version: u8,
+        config: &Config,
+        pieces: u16,
+        number: u16,
+        rows: &Rows,
+    ) -> Result<Handled, OutOfMemory>
+        requires from_one { 1 ≤ number }
+        requires one_of { number ≤ pieces }
+        ensures answer { (node : NodeRecord) → IfOk result (λ h. h
+            ≡ (on_state_piece version (within node self.old) config.now pieces (record { number = number; rows = rows.now })).answer) }
+        ensures kept { (node : NodeRecord) → OnOk result (within node self.new
+            ≡ (on_state_piece version (within node self.old) config.now pieces (record { number = number; rows = rows.now })).kept) }
+        ensures sends { (node : NodeRecord) → OnOk result
+            ((on_state_piece version (within node self.old) config.now pieces (record { number = number; rows = rows.now })).sends ≡ []) }
+    {
+        if !self.may_take_piece(version, config, pieces, number, rows) {
+            return Ok(refusal(config.epoch(), self.least()));
+        }
+        let before = self.gathering.take();
+        let gathering = gather(alloc, before, config, pieces, number, rows)?;
+        self.go_on(alloc, config, gathering)?;
         Ok(Handled::Acted)
     }
 }

@@ -1,8 +1,8 @@
 //! A node promises to reach no lower epoch.
-ghost use Rattle.std.specs.Prelude.{◌≡◌, ◌++◌, IsTrue, IfOk, OnOk};
+ghost use Rattle.std.specs.Prelude.{◌≡◌, ◌+◌, ◌++◌, max, IsTrue, IfOk, OnOk};
 ghost use Rattle.tcs_terms.specs.Places.{is_epoch};
 ghost use Rattle.protocol.specs.Records.{NodeRecord};
-ghost use Rattle.protocol.specs.ShardRules.{least, on_probe};
+ghost use Rattle.protocol.specs.ShardRules.{on_probe};
 ghost use Rattle.replica.specs.Replicas.{within};
 
 use crate::replicas::Replica;
@@ -15,13 +15,12 @@ use tcs_terms::{Epoch, Handled, Message, NodeId, OutOfMemory, Outgoing};
 impl<G: VoteGuard> Replica<G> {
     /// The least epoch that the node may still promise or reach.
     pub(crate) fn least(&self) -> Epoch
-        ensures { (node : NodeRecord) → result ≡ least (within node self.now) }
+        ensures { let s = self.now in result ≡ max s.promised (s.state + 1) }
     {
         self.promised.max(self.state + 1)
     }
 
     /// PROBE: the node is fenced, and promises to reach no lower epoch. What it gathered for a lower one is dropped.
-    #[tactic(auto, unfolding(protocol::specs::ShardRules::on_probe, protocol::specs::Choices::when))]
     pub fn probe(
         &mut self,
         from: NodeId,

@@ -3,6 +3,7 @@ ghost use Rattle.std.specs.Prelude.{◌≡◌, IfOk};
 ghost use Rattle.std.specs.Option.{option_copied};
 ghost use Rattle.tcs_terms.specs.Places.{is_among};
 ghost use Rattle.protocol.specs.ShardRules.{is_leader, is_following, is_fenced};
+ghost use Rattle.protocol.specs.Views.{is_follower};
 ghost use Rattle.protocol.specs.World.{first_role, first_epoch};
 ghost use Rattle.replica.specs.Roles.{role_of};
 
@@ -22,6 +23,13 @@ pub(crate) fn is_among(nodes: &[NodeId], node: NodeId) -> bool
     ensures { result ≡ is_among nodes.now node }
 {
     nodes.contains(&node)
+}
+
+/// Whether a node is a member of a configuration and does not lead it.
+pub(crate) fn is_follower(config: &Config, node: NodeId) -> bool
+    ensures { result ≡ is_follower config.now node }
+{
+    is_among(config.members(), node) && node != config.leader()
 }
 
 impl Role {

@@ -14,12 +14,12 @@ unmet : (g : Over) (c : goal.After-refusal g) (node : NodeRecord)
     → on_probe (within node c.args.self.now) c.args.from c.args.epoch ≡ refuses c.args.epoch c.least-least.result (within node c.args.self.now)
 unfolding on_probe when
 unmet g c node =
-    let is = c.least-least.ensures node in
+    let is = c.least-least.ensures in
     let low : nat_le (least (within node c.args.self.now)) c.args.epoch ≡ false = grind (arith, nat_tests) in
     rw (low, is) refl
 
 high : (g : Over) (c : goal.After-drop_below g) (node : NodeRecord) → nat_le (least (within node c.args.self.now)) c.args.epoch ≡ true
-high g c node = let is = c.least-least.ensures node in grind (arith, nat_tests)
+high g c node = let is = c.least-least.ensures in grind (arith, nat_tests)
 
 pub returns-then-epoch-least-clause-answer : goal.returns-then-epoch-least-clause-answer
 returns-then-epoch-least-clause-answer g c = λ node. rw (unmet g c node) c.refusal.ensures
