@@ -3,8 +3,8 @@ ghost use Rattle.std.specs.Prelude.{◌≡◌, ◌&&◌, ◌==◌, ◌≤◌, []
 ghost use Rattle.tcs_terms.specs.Logs.{AreRows};
 ghost use Rattle.protocol.specs.Pieces.{takes_piece};
 ghost use Rattle.protocol.specs.Records.{NodeRecord, Piece};
-ghost use Rattle.protocol.specs.ShardRules.{may_follow, follows, gathers, on_new_state, on_state_piece};
-ghost use Rattle.replica.specs.Replicas.{within};
+ghost use Rattle.protocol.specs.ShardRules.{follows, gathers, on_new_state, on_state_piece};
+ghost use Rattle.replica.specs.Replicas.{within, can_follow};
 
 use crate::replicas::Replica;
 use crate::roles::{Role, is_follower};
@@ -34,18 +34,18 @@ impl<G: VoteGuard> Replica<G> {
     /// Whether the node may follow a configuration: it is of its shard and a member that does not lead, and the epoch is
     /// not below its least.
     fn may_follow(&self, config: &Config) -> bool
-        ensures { (node : NodeRecord) → result ≡ may_follow (within node self.now) config.now }
+        ensures { result ≡ can_follow self.now config.now }
     {
         config.shard() == self.shard
             && self.least() <= config.epoch()
             && is_follower(config, self.name)
     }
 
-    /// Whether a whole state of this configuration may be taken.
-    fn may_take_whole(&self, version: u8, config: &Config) -> bool
-        ensures { (node : NodeRecord) → result ≡ ((version == 1) && may_follow (within node self.now) config.now) }
+    /// The same, where this version of states is the one of the run.
+    fn may_take(&self, needed: u8, version: u8, config: &Config) -> bool
+        ensures { result ≡ ((version == needed) && can_follow self.now config.now) }
     {
-        version == WHOLE && self.may_follow(config)
+        version == needed && self.may_follow(config)
     }
 
     /// Whether a piece of a state of this configuration may be taken.
@@ -57,11 +57,10 @@ impl<G: VoteGuard> Replica<G> {
         number: u16,
         rows: &Rows,
     ) -> bool
-        ensures { (node : NodeRecord) → result ≡ ((version == 2) && may_follow (within node self.now) config.now
+        ensures { result ≡ ((version == 2) && can_follow self.now config.now
             && takes_piece self.now.gathering config.now pieces (record { number = number; rows = rows.now })) }
     {
-        version == IN_PIECES
-            && self.may_follow(config)
+        self.may_take(IN_PIECES, version, config)
             && takes_piece(&self.gathering, config, pieces, number, rows)
     }
 
@@ -90,7 +89,7 @@ impl<G: VoteGuard> Replica<G> {
         ensures kept { (node : NodeRecord) → OnOk result (within node self.new ≡ (on_new_state version (within node self.old) config.now rows.now).kept) }
         ensures sends { (node : NodeRecord) → OnOk result ((on_new_state version (within node self.old) config.now rows.now).sends ≡ []) }
     {
-        if !self.may_take_whole(version, config) {
+        if !self.may_take(WHOLE, version, config) {
             return Ok(refusal(config.epoch(), self.least()));
         }
         let rows = copied(alloc, rows)?;

@@ -1,9 +1,9 @@
 //! A node promises to reach no lower epoch.
-ghost use Rattle.std.specs.Prelude.{◌≡◌, ◌+◌, ◌++◌, max, IsTrue, IfOk, OnOk};
+ghost use Rattle.std.specs.Prelude.{◌≡◌, ◌++◌, IsTrue, IfOk, OnOk};
 ghost use Rattle.tcs_terms.specs.Places.{is_epoch};
 ghost use Rattle.protocol.specs.Records.{NodeRecord};
 ghost use Rattle.protocol.specs.ShardRules.{on_probe};
-ghost use Rattle.replica.specs.Replicas.{within};
+ghost use Rattle.replica.specs.Replicas.{within, least_epoch};
 
 use crate::replicas::Replica;
 use crate::roles::Role;
@@ -15,7 +15,7 @@ use tcs_terms::{Epoch, Handled, Message, NodeId, OutOfMemory, Outgoing};
 impl<G: VoteGuard> Replica<G> {
     /// The least epoch that the node may still promise or reach.
     pub(crate) fn least(&self) -> Epoch
-        ensures { let s = self.now in result ≡ max s.promised (s.state + 1) }
+        ensures { result ≡ least_epoch self.now }
     {
         self.promised.max(self.state + 1)
     }
