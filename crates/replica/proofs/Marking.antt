@@ -1,13 +1,13 @@
 -- The row that a decision is for, and what a store stands for once the row has its mark.
-use Rattle.std.proofs.Common.{◌≡◌, ℕ, ◌+◌, ◌<◌, zero, suc, Bool, true, false, not, cond, ◌&&◌, List, [], ◌∷◌, length, get_or, Some, None, Option, refl, sym, ap, ◌∙◌, subst, inl, inr, arith}
+use Rattle.std.proofs.Common.{◌≡◌, ℕ, suc, Bool, true, false, not, List, [], ◌∷◌, get_or, Some, None, refl, sym, ap, ◌∙◌, subst, inl, inr, arith}
 use Rattle.std.specs.Prelude.{◌==◌, Contains, find}
 use Rattle.std.specs.List.{list_any}
-use Rattle.std.proofs.lemmas.Bool.{cond-true, cond-false, cases_Bool, and_parts, or_parts, eqb-true, not-true}
+use Rattle.std.proofs.lemmas.Bool.{cond-true, cond-false, cases_Bool, and_parts, eqb-true, not-true}
 use Rattle.std.proofs.lemmas.List.{get_or-map}
 use Rattle.tcs_terms.specs.declared.ids.TxId.{TxId}
 use Rattle.tcs_terms.specs.declared.logs.Row.{Row}
 use Rattle.tcs_terms.specs.declared.logs.Mark.{Mark}
-use Rattle.tcs_terms.specs.declared.logs.Mark.TheVariants.{Undecided, Committed, Aborted}
+use Rattle.tcs_terms.specs.declared.logs.Mark.TheVariants.{Undecided, Committed}
 use Rattle.tcs_terms.specs.Logs.{same_txn, txns_differ, AreRows}
 use Rattle.protocol.specs.Log.{row_of, row_at, holds_txn, has_at, marked, mark_of}
 use Rattle.version_store.specs.declared.store.VersionStore.{VersionStore}
@@ -59,10 +59,10 @@ stands_at (r ∷ rows) slot txn differ has =
     elim (cases_Bool (same_txn r.entry.txn txn)) [
       | inl same ↦ elim (cases_Bool (r.entry.slot == slot)) [
         | inl here ↦ record {
-            row = r;
-            found = cond-true (same_txn r.entry.txn txn) (Some r) (row_of rows txn) same;
-            here = eqb-true r.entry.slot slot here;
-          }
+          row = r;
+          found = cond-true (same_txn r.entry.txn txn) (Some r) (row_of rows txn) same;
+          here = eqb-true r.entry.slot slot here;
+        }
         | inr past ↦
             let later = among_txns rows slot txn (ap (λ o. holds_txn o txn) (sym (cond-false (r.entry.slot == slot) (Some r) (row_at rows slot) past)) ∙ has) in
             let twice : list_any (same_txn r.entry.txn) (txns_of rows) ≡ true = subst (λ t. list_any (same_txn t) (txns_of rows) ≡ true) (sym (same_txn-eq r.entry.txn txn same)) later in

@@ -9,10 +9,10 @@ use Rattle.tcs_terms.specs.Places.{is_among}
 use Rattle.tcs_terms.specs.Preparations.{Preparation}
 use Rattle.tcs_laws.specs.Certification.{Tests}
 use Rattle.protocol.specs.Choices.{when}
-use Rattle.protocol.specs.Outcomes.{Out, to, acts, rests}
+use Rattle.protocol.specs.Outcomes.{to, acts, rests}
 use Rattle.protocol.specs.Records.{NodeRecord}
 use Rattle.protocol.specs.ShardRules.{is_leader, with_rows, prepared, on_prepare}
-use Rattle.protocol.specs.Log.{row_of, is_full, new_entry}
+use Rattle.protocol.specs.Log.{row_of, new_entry}
 use Rattle.cert_log.specs.Preparing.{entry_by, rows_by, no_room_by, prepared_entry, prepared_rows, finds_no_room}
 
 module _ (tests : Tests) (node : NodeRecord) (from epoch : ℕ) (txn : TxId) (shards : List ℕ) (part : Option Accesses) where

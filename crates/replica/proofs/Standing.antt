@@ -3,7 +3,6 @@ use Rattle.std.proofs.Common.{◌≡◌, ℕ, List, Some, None, Option, Result, 
 use Rattle.tcs_terms.specs.declared.ids.TxId.{TxId}
 use Rattle.tcs_terms.specs.declared.logs.Row.{Row}
 use Rattle.tcs_terms.specs.Payloads.{Accesses}
-use Rattle.tcs_terms.specs.Preparations.{Preparation}
 use Rattle.tcs_laws.specs.Certification.{Tests}
 use Rattle.protocol.specs.Log.{row_of, new_entry}
 use Rattle.version_store.specs.declared.store.VersionStore.{VersionStore}

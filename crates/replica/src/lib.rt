@@ -11,5 +11,7 @@ mod promising;
 mod replicas;
 mod roles;
 mod shard_logs;
+#[cfg(test)]
+mod tests;
 
 pub use replicas::Replica;

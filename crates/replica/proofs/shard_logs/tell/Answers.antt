@@ -1,5 +1,5 @@
 -- A row that is marked committed is told; what else happens to rows changes nothing that is read.
-use Rattle.std.proofs.Common.{◌≡◌, true, false, sym, subst}
+use Rattle.std.proofs.Common.{sym, subst}
 use Rattle.std.proofs.lemmas.Result.{on_ok_weaker}
 use Rattle.protocol.specs.Log.{marked, mark_of}
 use Rattle.version_store.specs.Keeping.{StandsFor}

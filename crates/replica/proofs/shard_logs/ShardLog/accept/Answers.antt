@@ -1,5 +1,5 @@
 -- An undecided row changes nothing that is read.
-use Rattle.std.proofs.Common.{◌≡◌, false, subst, sym}
+use Rattle.std.proofs.Common.{◌≡◌, false}
 use Rattle.protocol.specs.Log.{is_taken, accepted}
 use Rattle.version_store.proofs.Undecided.{stands_accepted}
 use Rattle.replica.proofs.Standing.{stands_after}
