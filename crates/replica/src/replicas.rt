@@ -1,6 +1,7 @@
 //! A node's part in its shard, and what it tells of itself.
-ghost use Rattle.std.specs.Prelude.{◌≡◌, List, IfOk};
+ghost use Rattle.std.specs.Prelude.{◌≡◌, ◌≤◌, List, IfOk};
 ghost use Rattle.std.specs.Option.{option_copied};
+ghost use Rattle.tcs_terms.specs.declared.limits.TheConstants.{MAX_EPOCH};
 ghost use Rattle.tcs_terms.specs.Places.{Membership};
 ghost use Rattle.protocol.specs.Log.{row_of};
 ghost use Rattle.protocol.specs.Versions.{read_of};
@@ -90,14 +91,16 @@ impl<G: VoteGuard> Replica<G> {
 
     /// The last epoch in which the node was initialised, 0 if never.
     pub fn state(&self) -> Epoch
-        ensures { result ≡ self.now.state }
+        ensures state { result ≡ self.now.state }
+        ensures fits { self.now.state ≤ MAX_EPOCH }
     {
         self.state
     }
 
     /// The greatest epoch that the node promised, 0 if none.
     pub fn promised(&self) -> Epoch
-        ensures { result ≡ self.now.promised }
+        ensures promised { result ≡ self.now.promised }
+        ensures fits { self.now.promised ≤ MAX_EPOCH }
     {
         self.promised
     }

@@ -8,8 +8,8 @@ use std::process::Abort;
 use std::test::Fail;
 use tcs_laws::ScanGuard;
 use tcs_terms::{
-    Config, Entry, Epoch, Handled, Message, Name, Outgoing, Payload, ReadPart, ShardSet, Slot,
-    TxId, Value, Vote, WritePart,
+    Config, Entry, Epoch, Handled, Message, Name, OutOfMemory, Outgoing, Payload, ReadPart,
+    ShardSet, Slot, TxId, Value, Vote, WritePart,
 };
 
 type Node = Replica<ScanGuard<Serial>>;
@@ -18,64 +18,91 @@ type Node = Replica<ScanGuard<Serial>>;
 #[test]
 fn a_leader_reads_what_it_committed(rt: HostRuntime) -> Result<(), Fail> {
     let alloc = rt.alloc();
-    let config = Config::build(1, 1, vec![in alloc; 1]?, 1, 0)?;
-    let mut node = Node::first(alloc, 1, 1, Some(&config))?;
-    let mut sent = Vec::new(alloc);
-    let part = Some(payload(alloc)?);
-    let answer = node.prepare(alloc, 1, 1, txn(1), &shards(alloc)?, &part, &mut sent)?;
-    assert_eq!(rt; answer, Handled::Acted);
-    match sent.as_slice() {
-        [
-            Outgoing {
-                to,
-                message: Message::PrepareAck { entry, .. },
-            },
-        ] => {
-            assert_eq!(rt; (*to, entry.slot, entry.vote), (1, 1, Vote::Commit));
-        }
-        _ => panic!(rt; "one answer"),
-    }
+    let mut node = Node::first(alloc, 1, 1, Some(&config(alloc, 1, 1)?))?;
+    prepare_first(&rt, alloc, &mut node)?;
     let name = Name::build(alloc, b"a")?;
-    assert_eq!(rt; node.read(&name).version, 0);
+    assert_eq!(rt; read_byte(&node, &name), None);
     assert_eq!(rt; node.decide(alloc, 1, 1, txn(1), true)?, Handled::Acted);
-    assert_eq!(rt; node.read(&name).version, 1);
-    assert!(rt; matches!(node.read(&name).value, Some(value) if value.bytes() == [5].as_slice()));
+    assert_eq!(rt; read_byte(&node, &name), Some(5));
     Ok(())
 }
 
-/// 25 rows of a follower, which becomes leader, are taken in two pieces, the second one first, and once more as a whole.
+/// A follower becomes leader and hands its 25 rows over: in two pieces, the second one first, and once more as a whole.
 #[test]
 fn a_new_member_takes_the_rows(rt: HostRuntime) -> Result<(), Fail> {
     let alloc = rt.alloc();
     let mut old = Node::first(alloc, 1, 1, Some(&config(alloc, 1, 3)?))?;
     let mut new = Node::first(alloc, 3, 1, None)?;
-    let mut sent = Vec::new(alloc);
-    for slot in 1..26 {
-        old.accept(alloc, 3, 1, &entry(alloc, slot)?, &mut sent)?;
-    }
-    assert_eq!(rt; sent.len(), 25);
-    for (version, epoch) in [(2, 2), (1, 3)] {
-        assert_eq!(rt; old.probe(2, epoch, &mut sent)?, Handled::Acted);
-        sent.clear();
-        let answer = old.new_config(alloc, version, &config(alloc, epoch, 1)?, &mut sent)?;
-        assert_eq!(rt; answer, Handled::Acted);
-        for message in sent.iter().rev() {
-            take(&rt, alloc, &mut new, version, &message.message)?;
-        }
-        assert_eq!(rt; (new.state(), new.promised()), (epoch, epoch));
-        assert!(rt; new.row_of(txn(1)).is_some() && new.row_of(txn(25)).is_some());
-    }
+    accept_rows(&rt, alloc, &mut old)?;
+    hand_over(&rt, alloc, &mut old, &mut new, 2, &config(alloc, 2, 1)?)?;
+    hand_over(&rt, alloc, &mut old, &mut new, 1, &config(alloc, 3, 1)?)?;
+    assert!(rt; new.row_of(txn(1)).is_some() && new.row_of(txn(25)).is_some());
     Ok(())
 }
 
-/// A node takes a state, or a piece of one.
-fn take(
+/// The leader prepares transaction 1.1, which reads object a at version 0 and writes 5 to it.
+fn prepare_first(rt: &impl Abort, alloc: Global, node: &mut Node) -> Result<(), Fail> {
+    let part = Some(payload(alloc)?);
+    let shards = shards(alloc)?;
+    let mut sent = Vec::new(alloc);
+    let answer = node.prepare(alloc, 1, 1, txn(1), &shards, &part, &mut sent)?;
+    assert_eq!(rt; answer, Handled::Acted);
+    assert!(rt;
+        matches!(sent.as_slice(), [Outgoing { to: 1, message: Message::PrepareAck { entry, .. } }]
+            if entry.slot == 1 && entry.vote == Vote::Commit)
+    );
+    Ok(())
+}
+
+/// The first byte of what is read.
+fn read_byte(node: &Node, name: &Name) -> Option<u8> {
+    match node.read(name).value {
+        None => None,
+        Some(value) => value.bytes().first().copied(),
+    }
+}
+
+/// The follower accepts the first 25 entries.
+fn accept_rows(rt: &impl Abort, alloc: Global, node: &mut Node) -> Result<(), Fail> {
+    let mut sent = Vec::new(alloc);
+    for slot in 1..26 {
+        let entry = entry(alloc, slot)?;
+        node.accept(alloc, 3, 1, &entry, &mut sent)?;
+    }
+    assert_eq!(rt; sent.len(), 25);
+    Ok(())
+}
+
+/// A member becomes leader of a configuration, and another node takes its rows, what was sent last first.
+fn hand_over(
     rt: &impl Abort,
+    alloc: Global,
+    old: &mut Node,
+    new: &mut Node,
+    version: u8,
+    config: &Config,
+) -> Result<(), Fail> {
+    let mut sent = Vec::new(alloc);
+    old.probe(2, config.epoch(), &mut sent)?;
+    sent.clear();
+    old.new_config(alloc, version, config, &mut sent)?;
+    for outgoing in sent.iter().rev() {
+        assert!(rt; takes(alloc, new, version, &outgoing.message)?);
+    }
+    assert_eq!(rt;
+        (new.state(), new.promised()),
+        (config.epoch(), config.epoch())
+    );
+    Ok(())
+}
+
+/// Whether a node takes a state, or a piece of one.
+fn takes(
     alloc: Global,
     node: &mut Node,
     version: u8,
     message: &Message,
-) -> Result<(), Fail> {
+) -> Result<bool, OutOfMemory> {
     let answer = match message {
         Message::NewState { config, rows } => node.new_state(alloc, version, config, rows)?,
         Message::StatePiece {
@@ -83,16 +110,15 @@ fn take(
             piece,
             pieces,
             rows,
-        } => {
-            assert!(rt; 1 <= *piece && *piece <= *pieces);
+        } if 1 <= *piece && *piece <= *pieces => {
             node.state_piece(alloc, version, config, *pieces, *piece, rows)?
         }
-        _ => panic!(rt; "a state"),
+        _ => return Ok(false),
     };
-    assert_eq!(rt; answer, Handled::Acted);
-    Ok(())
+    Ok(answer == Handled::Acted)
 }
 
+/// A configuration of shard 1 with the members 1 and 3.
 fn config(alloc: Global, epoch: Epoch, leader: u8) -> Result<Config, Fail> {
     Ok(Config::build(1, epoch, vec![in alloc; 1, 3]?, leader, 2)?)
 }
