@@ -47,10 +47,17 @@ fn prepare_first(rt: &impl Abort, alloc: Global, node: &mut Node) -> Result<(), 
     let mut sent = Vec::new(alloc);
     let answer = node.prepare(alloc, 1, 1, txn(1), &shards, &part, &mut sent)?;
     assert_eq!(rt; answer, Handled::Acted);
-    assert!(rt;
-        matches!(sent.as_slice(), [Outgoing { to: 1, message: Message::PrepareAck { entry, .. } }]
-            if entry.slot == 1 && entry.vote == Vote::Commit)
-    );
+    match sent.as_slice() {
+        [
+            Outgoing {
+                to,
+                message: Message::PrepareAck { entry, .. },
+            },
+        ] => {
+            assert_eq!(rt; (*to, entry.slot, entry.vote), (1, 1, Vote::Commit));
+        }
+        _ => panic!(rt; "one answer"),
+    }
     Ok(())
 }
 
