@@ -1,0 +1,5 @@
+pub mod Marking
+pub mod Standing
+pub mod PrepareRule
+pub mod DecisionRule
+pub mod PieceRule
