@@ -1,5 +1,4 @@
 pub mod Marking
 pub mod Standing
 pub mod PrepareRule
-pub mod DecisionRule
 pub mod PieceRule

@@ -1,9 +1,7 @@
--- The row is marked where the guard passes. Nothing is ever sent.
+-- The row is marked where the guard passes, and nothing is sent either way.
 use Rattle.std.proofs.Common.{refl, sym, ◌∙◌}
 use Rattle.protocol.specs.Choices.{when}
 use Rattle.protocol.specs.ShardRules.{on_decision}
-use Rattle.replica.specs.Replicas.{within}
-use Rattle.replica.proofs.DecisionRule.{sends_nothing}
 use Rattle.replica.proofs.replicas.Replica.decide.Goals as goal
 
 pub returns-then-not-may_mark-clause-answer : goal.returns-then-not-may_mark-clause-answer
@@ -15,7 +13,8 @@ unfolding on_decision when
 returns-then-not-may_mark-clause-kept g c = λ node. rw (sym c.may_mark.ensures ∙ c.if-not-may_mark.true) refl
 
 pub returns-then-not-may_mark-clause-sends : goal.returns-then-not-may_mark-clause-sends
-returns-then-not-may_mark-clause-sends g c = λ node. sends_nothing (within node c.args.self.now) c.args.epoch c.args.slot c.args.txn c.args.commit
+unfolding on_decision when
+returns-then-not-may_mark-clause-sends g c = λ node. rw (sym c.may_mark.ensures ∙ c.if-not-may_mark.true) refl
 
 pub returns-clause-answer : goal.returns-clause-answer
 unfolding on_decision when
@@ -27,4 +26,5 @@ returns-clause-kept g c = λ node.
     rw (sym c.may_mark.ensures ∙ c.if-not-may_mark.false, c.in_ok-self-inside.ensures, c.replace-log.ensures.value, ← c.self.view_is) refl
 
 pub returns-clause-sends : goal.returns-clause-sends
-returns-clause-sends g c = λ node. sends_nothing (within node c.args.self.now) c.args.epoch c.args.slot c.args.txn c.args.commit
+unfolding on_decision when
+returns-clause-sends g c = λ node. rw (sym c.may_mark.ensures ∙ c.if-not-may_mark.false) refl
