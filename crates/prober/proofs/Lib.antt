@@ -1,0 +1,2 @@
+pub mod ProposalLaws
+pub mod StageLaws
