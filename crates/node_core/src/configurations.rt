@@ -1,6 +1,7 @@
 //! A node hears of configurations that the service stored.
-ghost use Rattle.std.specs.Prelude.{◌≡◌, ℕ, ◌++◌, [], IsTrue, IfOk, OnOk};
+ghost use Rattle.std.specs.Prelude.{◌≡◌, ℕ, ◌++◌, ◌||◌, [], IsTrue, IfOk, OnOk};
 ghost use Rattle.protocol.specs.Choices.{when};
+ghost use Rattle.protocol.specs.Coordination.{is_newer};
 ghost use Rattle.protocol.specs.Outcomes.{acts};
 ghost use Rattle.protocol.specs.Probing.{awaits, on_stored};
 ghost use Rattle.protocol.specs.Table.{is_awaited, on_stored_config};
@@ -13,6 +14,7 @@ use tcs_laws::VoteGuard;
 use tcs_terms::{Config, Handled, NodeId, OutOfMemory, Outgoing};
 
 /// The prober goes on with a stored configuration, where it awaited it.
+#[tactic(auto, unfolding(protocol::specs::Choices::when))]
 fn go_on(
     prober: &mut Prober,
     alloc: Global,
@@ -40,6 +42,13 @@ impl<G: VoteGuard> Parts<G> {
             .awaits(config, self.coordinator.view_epoch(config.shard()))
     }
 
+    /// Whether the configuration is awaited or newer than the view of its shard.
+    fn is_wanted(&self, awaited: bool, config: &Config) -> bool
+        ensures { result ≡ (awaited || is_newer self.now.coordinator config.now) }
+    {
+        awaited || self.coordinator.is_newer(config)
+    }
+
     /// STORED: an older view of the shard is replaced, and the prober goes on where it awaited the configuration.
     /// Whether it did is judged by the view before.
     pub(crate) fn hear_stored(
@@ -53,7 +62,7 @@ impl<G: VoteGuard> Parts<G> {
         ensures sends { OnOk result (out.new.items ≡ out.old.items ++ (on_stored_config self.old config.now).sends) }
     {
         let awaited = self.awaits(config);
-        if !awaited && !self.coordinator.is_newer(config) {
+        if !self.is_wanted(awaited, config) {
             let view = self.coordinator.view_epoch(config.shard());
             return Ok(refusal(config.epoch(), view));
         }

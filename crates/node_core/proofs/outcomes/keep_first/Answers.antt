@@ -1,4 +1,3 @@
-use Rattle.node_core.proofs.Stepping.{step_sound}
 use Rattle.std.proofs.Common.{◌≡◌, Option, None, Some, false, refl, sym, ◌∙◌}
 use Rattle.std.specs.Option.{is_some}
 use Rattle.std.specs.Map.{lookup}
