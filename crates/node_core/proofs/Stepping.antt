@@ -1,5 +1,5 @@
 -- What the rules of messages and of clients leave, and that each step leaves a sound node.
-use Rattle.std.proofs.Common.{◌≡◌, ℕ, suc, ◌+◌, ◌≤◌, Bool, true, false, List, [], ◌∷◌, ◌++◌, Option, Some, None, refl, arith, length}
+use Rattle.std.proofs.Common.{◌≡◌, ℕ, suc, ◌+◌, ◌≤◌, Bool, true, false, List, [], ◌∷◌, ◌++◌, Option, Some, None, refl, arith, ◌∙◌, ap, append_assoc, append-nil}
 use Rattle.std.specs.Prelude.{nat_le, ◌&&◌, is_none}
 use Rattle.std.proofs.lemmas.Bool.Decides.{nat_tests}
 use Rattle.tcs_terms.specs.declared.limits.TheConstants.{MAX_SEQUENCE}
@@ -30,10 +30,15 @@ use Rattle.protocol.specs.ClientRules.{coordinates, probes, is_undecided, may_ex
 use Rattle.protocol.specs.Table.{on_stored_config, on_outcome, receive, step}
 use Rattle.node_core.specs.Hearing.{hear, is_answered, notice_if}
 use Rattle.node_core.specs.Soundness.{IsSound, is_given}
-use Rattle.node_core.proofs.Keys.{each_added, each_weaker, given_later, given_now}
+use Rattle.node_core.proofs.Keys.{each_added, each_weaker, given_later, given_now, is_absent}
 use Rattle.node_core.proofs.Orderly.{IsOrderly, acts_orderly, rests_orderly, when_orderly}
 use Rattle.node_core.proofs.Standing.{IsQuiet, when_quiet, acts_quiet, rests_quiet, prepare_quiet, accept_quiet, decision_quiet, probe_quiet, new_config_quiet, new_state_quiet, state_piece_quiet}
 use Rattle.node_core.proofs.Coordinating.{vote_keeps, acceptance_keeps, config_keeps, config_silent}
+
+when_by : {A : Type 0} (P : Out A → Type 0) (b : Bool) (x y : Out A) → (b ≡ true → P x) → (b ≡ false → P y) → P (when b x y)
+unfolding when
+when_by P true x y one other = one refl
+when_by P false x y one other = other refl
 
 pub stored_quiet : (node : NodeRecord) (config : Membership) → IsQuiet node (on_stored_config node config)
 unfolding on_stored_config
@@ -43,6 +48,10 @@ stored_quiet node config = when_quiet node _ _ _
 pub outcome_quiet : (node : NodeRecord) (txn : TxId) (decision : Decision) → IsQuiet node (on_outcome node txn decision)
 unfolding on_outcome
 outcome_quiet node txn decision = when_quiet node _ _ _ (acts_quiet node _ _ (λ h. h)) (rests_quiet node _)
+
+pub outcome_unsent : (node : NodeRecord) (txn : TxId) (decision : Decision) → (on_outcome node txn decision).sends ≡ []
+unfolding on_outcome
+outcome_unsent node txn decision = when_by (λ out. out.sends ≡ []) _ _ _ (λ e. refl) (λ e. refl)
 
 pub change_quiet : (node : NodeRecord) (config : Membership) → IsQuiet node (coordinates node (on_config node.coordinator config))
 change_quiet node config = let k = config_keeps node.name node.next node.coordinator config in
@@ -146,12 +155,28 @@ is_heard tests version node from (OutcomeOf txn decision) = record { answer = re
 is_heard tests version node from (Refused kind why mark) = record { answer = refl; kept = refl; sends = refl; notes = refl }
 is_heard tests version node from (StatePiece config number pieces rows) = record { answer = refl; kept = refl; sends = refl; notes = refl }
 
+-- the notice may stand behind
+notice_last : (told : Bool) (answer : Handled) (sends : List Outgoing) (from kind mark : ℕ) → IsOrderly answer sends
+    → sends ++ notice_if told answer from kind mark ≡ notice_if told answer from kind mark ++ sends
+notice_last true answer sends from kind mark orderly = orderly from kind mark
+notice_last false answer sends from kind mark orderly = append-nil sends
+
+-- what was sent before, by the rule, and by the notice
+pub received : (tests : Tests) (version : ℕ) (node : NodeRecord) (from : ℕ) (message : Message) (before after told : List Outgoing) (handled : Handled) (promised : ℕ)
+    → handled ≡ (hear tests version node from message).answer → promised ≡ node.promised
+    → after ≡ before ++ (hear tests version node from message).sends
+    → told ≡ after ++ notice_if (is_answered message) handled from (kind_of message) promised
+    → told ≡ before ++ (receive tests version node from message).sends
+received tests version node from message before after told handled promised answer mark ruled noticed =
+    let out = hear tests version node from message in
+    noticed ∙ rw (ruled, answer, mark, (is_heard tests version node from message).sends)
+    (append_assoc before out.sends _
+    ∙ ap (λ (more : List Outgoing). before ++ more) (notice_last (is_answered message) out.answer out.sends from (kind_of message) node.promised (hear_fit tests version node from message).orderly))
+
 -- ---- clients, and every input
 
-when_by : {A : Type 0} (P : Out A → Type 0) (b : Bool) (x y : Out A) → (b ≡ true → P x) → (b ≡ false → P y) → P (when b x y)
-unfolding when
-when_by P true x y one other = one refl
-when_by P false x y one other = other refl
+pub next_absent : (node : NodeRecord) → IsSound node → case_of node.coordinator (next_txn node) ≡ None
+next_absent node h = is_absent node.name node.next node.coordinator.cases h.given
 
 certify_sound : (node : NodeRecord) (payload : Accesses) → IsSound node → IsSound (certify node payload).kept
 unfolding certify begin_case
@@ -185,9 +210,13 @@ take_row_sound node txn (Some row) h = when_by (λ out. IsSound out.kept) _ _ _
     })
     (λ held. h)
 
-read_kept : (node : NodeRecord) (name : List ℕ) → (read node name).kept ≡ node
+pub read_kept : (node : NodeRecord) (name : List ℕ) → (read node name).kept ≡ node
 unfolding read
 read_kept node name = when_by (λ out. out.kept ≡ node) _ _ _ (λ e. refl) (λ e. refl)
+
+pub read_unsent : (node : NodeRecord) (name : List ℕ) → (read node name).sends ≡ []
+unfolding read
+read_unsent node name = when_by (λ out. out.sends ≡ []) _ _ _ (λ e. refl) (λ e. refl)
 
 pub step_sound : (tests : Tests) (version : ℕ) (node : NodeRecord) (input : Input) → IsSound node → IsSound (step tests version node input).kept
 unfolding step take nudge move go_lower ask
