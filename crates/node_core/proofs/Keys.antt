@@ -58,5 +58,5 @@ is_absent me ahead [] h = refl
 is_absent me ahead (e ∷ es) h =
     let other : same_txn (record { home = me; seq = ahead }) e.0 ≡ false = differs e.0 (left_of (is_given me ahead e.0) _ h) in
     rw other (is_absent me ahead es (right_of (is_given me ahead e.0) _ h)) where
-  differs : (t : TxId) → is_given me ahead t ≡ true → same_txn (record { home = me; seq = ahead }) t ≡ false
-  differs t given = grind (arith, nat_tests)
+      differs : (t : TxId) → is_given me ahead t ≡ true → same_txn (record { home = me; seq = ahead }) t ≡ false
+      differs t given = grind (arith, nat_tests)

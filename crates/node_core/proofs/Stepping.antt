@@ -192,8 +192,8 @@ certify_sound node payload h = when_by (λ out. IsSound out.kept) _ _ _
           (given_now node.name node.next);
     })
     (λ full. h) where
-  below : nat_le node.next MAX_SEQUENCE ≡ true → node.next + 1 ≤ MAX_SEQUENCE + 1
-  below low = grind (arith, nat_tests)
+      below : nat_le node.next MAX_SEQUENCE ≡ true → node.next + 1 ≤ MAX_SEQUENCE + 1
+      below low = grind (arith, nat_tests)
 
 take_row_sound : (node : NodeRecord) (txn : TxId) (found : Option Row) → IsSound node → IsSound (take_row node txn found).kept
 unfolding take_over

@@ -1,8 +1,10 @@
 //! One node of the service.
 ghost use Rattle.std.specs.Prelude.{◌≡◌, ◌≤◌, ◌++◌, IfOk, OnOk};
+ghost use Rattle.std.specs.Map.{lookup};
 ghost use Rattle.coordinator.specs.InOrder.{AreViews};
 ghost use Rattle.tcs_terms.specs.Events.{InputInRange};
 ghost use Rattle.tcs_terms.specs.declared.limits.TheConstants.{MAX_NODES};
+ghost use Rattle.tcs_terms.specs.Logs.{same_txn};
 ghost use Rattle.protocol.specs.Table.{step};
 ghost use Rattle.protocol.specs.World.{first_node};
 ghost use Rattle.node_core.specs.Soundness.{IsSound};
@@ -11,7 +13,9 @@ use crate::parts::Parts;
 use std::alloc::Global;
 use std::marker::Model;
 use tcs_laws::VoteGuard;
-use tcs_terms::{Config, Handled, Input, NodeId, Note, OutOfMemory, Outgoing, ShardId};
+use tcs_terms::{
+    Config, Decision, Handled, Input, NodeId, Note, OutOfMemory, Outgoing, ShardId, TxId,
+};
 
 /// A node, whose votes are given by a guard `G`. Seen as what it keeps, in the words of the rules. Where memory runs out
 /// in a step the node is spent: each further step runs out of memory too.
@@ -82,6 +86,13 @@ impl<G: VoteGuard> Node<G> {
             parts: Parts::first(alloc, name, shard, configs)?,
             spent: false,
         })
+    }
+
+    /// The outcome of a transaction that the node made, once it has heard it.
+    pub fn outcome_of(&self, txn: TxId) -> Option<Decision>
+        ensures { result ≡ lookup (same_txn txn) self.now.outcomes }
+    {
+        self.parts.outcomes.get(&txn).copied()
     }
 
     /// The node takes an input, whose numbers are in range, under this version of the protocol (1 or 2). What it sends
