@@ -1,0 +1,5 @@
+pub mod Coordinating
+pub mod Keys
+pub mod Orderly
+pub mod Standing
+pub mod Stepping
