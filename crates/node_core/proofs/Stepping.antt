@@ -1,8 +1,8 @@
--- What the rules of messages and of clients leave, and that each step leaves a sound node.
+-- A node begins sound; what the rules of messages and of clients leave, and that each step leaves a sound node.
 use Rattle.std.proofs.Common.{◌≡◌, ℕ, suc, ◌+◌, ◌≤◌, Bool, true, false, List, [], ◌∷◌, ◌++◌, Option, Some, None, refl, arith, ◌∙◌, ap, append_assoc, append-nil}
 use Rattle.std.specs.Prelude.{nat_le, ◌&&◌, is_none}
 use Rattle.std.proofs.lemmas.Bool.Decides.{nat_tests}
-use Rattle.tcs_terms.specs.declared.limits.TheConstants.{MAX_SEQUENCE}
+use Rattle.tcs_terms.specs.declared.limits.TheConstants.{MAX_SEQUENCE, MAX_NODES}
 use Rattle.tcs_terms.specs.declared.ids.TxId.{TxId}
 use Rattle.tcs_terms.specs.declared.logs.Row.{Row}
 use Rattle.tcs_terms.specs.declared.votes.Decision.{Decision}
@@ -28,12 +28,19 @@ use Rattle.protocol.specs.Log.{row_of}
 use Rattle.protocol.specs.Probing.{on_probe_ack, lower, start_move}
 use Rattle.protocol.specs.ClientRules.{coordinates, probes, is_undecided, may_exist, next_txn, certify, take_row, take, nudge, move, go_lower, read, ask}
 use Rattle.protocol.specs.Table.{on_stored_config, on_outcome, receive, step}
+use Rattle.protocol.specs.World.{first_node}
+use Rattle.coordinator.specs.InOrder.{AreViews}
 use Rattle.node_core.specs.Hearing.{hear, is_answered, notice_if}
 use Rattle.node_core.specs.Soundness.{IsSound, is_given}
 use Rattle.node_core.proofs.Keys.{each_added, each_weaker, given_later, given_now, is_absent}
 use Rattle.node_core.proofs.Orderly.{IsOrderly, acts_orderly, rests_orderly, when_orderly}
 use Rattle.node_core.proofs.Standing.{IsQuiet, when_quiet, acts_quiet, rests_quiet, prepare_quiet, accept_quiet, decision_quiet, probe_quiet, new_config_quiet, new_state_quiet, state_piece_quiet}
 use Rattle.node_core.proofs.Coordinating.{vote_keeps, acceptance_keeps, config_keeps, config_silent}
+
+pub first_sound : (configs : List Membership) (name shard : ℕ) → 1 ≤ name → name ≤ MAX_NODES → AreViews configs → IsSound (first_node configs name shard)
+unfolding first_node
+first_sound configs name shard low high views =
+    record { from_one = low; to_most = high; next = omega arith; some = views.some; few = views.few; given = refl }
 
 when_by : {A : Type 0} (P : Out A → Type 0) (b : Bool) (x y : Out A) → (b ≡ true → P x) → (b ≡ false → P y) → P (when b x y)
 unfolding when
