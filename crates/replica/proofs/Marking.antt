@@ -15,7 +15,8 @@ use Rattle.version_store.specs.Keeping.{StandsFor, SlotsAscend}
 use Rattle.version_store.proofs.Undecided.{stands_aborted}
 use Rattle.cert_log.specs.Places.{slots_of, txns_of}
 use Rattle.cert_log.proofs.Marking.{marked_before}
-use Rattle.cert_log.proofs.SameTxn.{same_txn-eq, same_txn-swap}
+use Rattle.tcs_terms.proofs.RowLaws.{same_swap}
+use Rattle.cert_log.proofs.SameTxn.{same_txn-eq}
 
 -- what a search finds is one of the elements
 pub contains_found : {X : Type 0} (p : X → Bool) (xs : List X) (x : X) → find p xs ≡ Some x → Contains xs x
@@ -46,7 +47,7 @@ among_txns (r ∷ rows) slot txn has = elim (cases_Bool (same_txn txn r.entry.tx
   | inr other ↦ elim (cases_Bool (r.entry.slot == slot)) [
     | inl here ↦
         let held = ap (λ o. holds_txn o txn) (sym (cond-true (r.entry.slot == slot) (Some r) (row_at rows slot) here)) ∙ has in
-        let swap = same_txn-swap txn r.entry.txn in absurd cc
+        let swap = same_swap txn r.entry.txn in absurd cc
     | inr past ↦
         rw other (among_txns rows slot txn (ap (λ o. holds_txn o txn) (sym (cond-false (r.entry.slot == slot) (Some r) (row_at rows slot) past)) ∙ has))
   ]
