@@ -11,7 +11,7 @@ returns-clause-kept g c = rw (is_heard _ c.args.version c.args.self.now c.args.f
 
 pub returns-clause-sends : goal.returns-clause-sends
 returns-clause-sends g c =
-    let promised : c.promised-promised.result ≡ c.args.self.now.promised = c.promised-promised.ensures ∙ ap (λ (n : NodeRecord). n.promised) c.self.view_is in
+    let promised : c.promised-promised.result ≡ c.args.self.now.promised = c.promised-promised.ensures.promised ∙ ap (λ (n : NodeRecord). n.promised) c.self.view_is in
     received _ c.args.version c.args.self.now c.args.from c.args.message.now c.args.out.now.items _ _ _ _ c.in_ok-handled.ensures.answer promised c.in_ok-handled.ensures.sends c.in_ok-tell.ensures
 
 pub returns-clause-notes : goal.returns-clause-notes
