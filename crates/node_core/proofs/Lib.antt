@@ -1,5 +1,0 @@
-pub mod Coordinating
-pub mod Keys
-pub mod Orderly
-pub mod Standing
-pub mod Stepping
