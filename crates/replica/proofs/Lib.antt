@@ -1,4 +1,0 @@
-pub mod Marking
-pub mod Standing
-pub mod PrepareRule
-pub mod PieceRule

@@ -1,3 +1,0 @@
-pub mod Replicas
-pub mod Roles
-pub mod Soundness
