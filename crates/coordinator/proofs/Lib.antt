@@ -1,9 +1,0 @@
-pub mod Acknowledging
-pub mod Answered
-pub mod ByKey
-pub mod Closing
-pub mod EntryLaws
-pub mod FirstViews
-pub mod Followers
-pub mod PartLaws
-pub mod ViewLaws

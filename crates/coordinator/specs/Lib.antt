@@ -1,2 +1,0 @@
-pub mod Acknowledged
-pub mod InOrder
