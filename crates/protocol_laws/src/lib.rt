@@ -5,4 +5,6 @@ pub mod copies;
 pub mod histories;
 pub mod invariant;
 pub mod limits;
+pub mod ranges;
+pub mod refusals;
 pub mod steps;
