@@ -5,3 +5,5 @@ pub mod Runs
 pub mod Limits
 pub mod Rising
 pub mod Told
+pub mod Promises
+pub mod Growth

@@ -2,7 +2,9 @@
 #![tactic(auto)]
 
 pub mod copies;
+pub mod growth;
 pub mod histories;
 pub mod invariant;
 pub mod limits;
+pub mod promises;
 pub mod steps;
