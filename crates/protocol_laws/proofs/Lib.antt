@@ -48,6 +48,7 @@ pub mod EntriesCasesKept
 pub mod EntriesKept
 pub mod EntriesListed
 pub mod EntriesListsKept
+pub mod EventsOf
 pub mod LogRows
 pub mod FoundInRun
 pub mod Fronts
@@ -71,6 +72,7 @@ pub mod OneEntry
 pub mod OneNote
 pub mod OnwardOf
 pub mod OrderOf
+pub mod OrderOn
 pub mod Orders
 pub mod PartsOf
 pub mod PastKept
@@ -80,6 +82,7 @@ pub mod ProbeAnswersKept
 pub mod ProbeAnswersSent
 pub mod PromisesKept
 pub mod PromisesNode
+pub mod PromisesOfRun
 pub mod PromisesOrder
 pub mod PromisesPieces
 pub mod PromisesRows
@@ -89,6 +92,7 @@ pub mod Readings
 pub mod ReadingsLast
 pub mod RunInduction
 pub mod RunMoments
+pub mod RunsOn
 pub mod SameTxn
 pub mod Sends
 pub mod ServesOf

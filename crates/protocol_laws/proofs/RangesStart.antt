@@ -10,7 +10,7 @@ use Rattle.tcs_terms.specs.declared.inputs.Event.TheVariants.{Call, DeliverNumbe
 use Rattle.tcs_terms.specs.declared.inputs.Input.{Input}
 use Rattle.tcs_terms.specs.declared.inputs.Input.TheVariants as inputs
 use Rattle.tcs_terms.specs.declared.limits.TheConstants.{MAX_SHARDS, MAX_NODES, MAX_EPOCH, MAX_WANTED}
-use Rattle.tcs_terms.specs.Events.{event_fits, input_fits, has_shard, InputInRange}
+use Rattle.tcs_terms.specs.Events.{input_fits, has_shard, InputInRange}
 use Rattle.tcs_terms.specs.Logs.{AreRows}
 use Rattle.tcs_terms.specs.Messages.{IsEntry, AreSentRows}
 use Rattle.tcs_terms.specs.Order.{ascends}
@@ -25,7 +25,7 @@ use Rattle.protocol.specs.Invariant.Time.{StandsIn}
 use Rattle.protocol.proofs.FirstNodes.{IsFirst, first_nodes-IsFirst}
 use Rattle.protocol.proofs.Lists.{all-StandsIn, find-StandsIn}
 use Rattle.protocol_laws.specs.Ranges.{IsRoleInRange, AreViews, IsNodeInRange, IsInputInRange, ComesFromNode, IsNoteInRange, IsSentInRange, IsWorldInRange, IsEventInRange}
-use Rattle.protocol_laws.specs.Runs.{EventStands}
+use Rattle.protocol_laws.specs.Runs.{IsInput, MayStand}
 use Rattle.protocol_laws.proofs.AllOf.{all-at, all-of}
 use Rattle.protocol_laws.proofs.RangesRows.{HasEntry}
 use Rattle.protocol_laws.proofs.Standing.{all-from}
@@ -141,12 +141,12 @@ move-in_range setup shard want d h =
     (right_of (has_shard setup shard && nat_le (length want) MAX_WANTED) (ascends want) b)
 
 -- an event of a run of the setup is in range
-pub event-in_range : (setup : Deployment) (event : Event) → IsDeployment setup → event_fits setup event ≡ true → EventStands event → IsEventInRange event
-event-in_range setup (DeliverNumber number) d f p = tt
-event-in_range setup (Stop node) d f p = tt
-event-in_range setup (Call node input) d f p = go input (right_of (has_node setup.nodes node) (input_fits setup input) f) p
+pub event-in_range : (setup : Deployment) (event : Event) → IsDeployment setup → MayStand setup event → IsEventInRange event
+event-in_range setup (DeliverNumber number) d m = tt
+event-in_range setup (Stop node) d m = tt
+event-in_range setup (Call node input) d m = go input (right_of (has_node setup.nodes node) (input_fits setup input) m.fits) m.event
   where
-    go : (i : Input) → input_fits setup i ≡ true → EventStands (Call node i) → IsInputInRange i × ComesFromNode i
+    go : (i : Input) → input_fits setup i ≡ true → IsInput i → IsInputInRange i × ComesFromNode i
     go (inputs.Certify payload) h q = ((tt, q), tt)
     go (inputs.Take txn) h q = ((tt, q), tt)
     go inputs.Nudge h q = ((tt, q), tt)

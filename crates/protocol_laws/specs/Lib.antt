@@ -5,5 +5,7 @@ pub mod Runs
 pub mod Limits
 pub mod Rising
 pub mod Told
+pub mod Promises
+pub mod Growth
 pub mod Ranges
 pub mod Refusals

@@ -23,7 +23,7 @@ use Rattle.protocol.specs.Records.{Part, Case, Coordinator, Role, Stage, Gatheri
 use Rattle.protocol.specs.Records.Role.{Fenced, Leader, Follower}
 use Rattle.protocol.specs.Records.Stage.{Idle, AskedLast, Probing, AskedLower, CasSent}
 use Rattle.protocol.specs.World.{World, Sent, Happening}
-use Rattle.protocol_laws.specs.Runs.{InputStands}
+use Rattle.protocol_laws.specs.Runs.{IsInput}
 
 -- the configuration that a node leads or follows is one
 abbrev pub IsRoleInRange : Role → Type 0
@@ -85,9 +85,9 @@ pub record IsNodeInRange (node : NodeRecord) : Type 0 where
   pub outcomes : All (λ o. IsTrue (is_txn o.0) × IsDecision o.1) node.outcomes
   pub gathering : IfSome node.gathering IsGatheringInRange
 
--- an input in range, whose payload, if it hands one in, is one
+-- an input in range, of a value that its type promises
 abbrev pub IsInputInRange : Input → Type 0
-IsInputInRange input = InputInRange input × InputStands input
+IsInputInRange input = InputInRange input × IsInput input
 
 -- who sent a message that is delivered is a node, or the service, which is 0
 abbrev pub ComesFromNode : Input → Type 0

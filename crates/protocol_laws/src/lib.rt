@@ -2,9 +2,11 @@
 #![tactic(auto)]
 
 pub mod copies;
+pub mod growth;
 pub mod histories;
 pub mod invariant;
 pub mod limits;
+pub mod promises;
 pub mod ranges;
 pub mod refusals;
 pub mod steps;

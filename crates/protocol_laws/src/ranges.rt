@@ -1,12 +1,11 @@
 //! Whatever nodes and the configuration service keep, send and note is in range: each message of each run has a spelling
 //! in bytes.
 
-ghost use Rattle.std.specs.Prelude.{◌≡◌, ℕ, ◌≤◌, true, List, All, IsTrue};
+ghost use Rattle.std.specs.Prelude.{ℕ, ◌≤◌, List, All, IsTrue};
 ghost use Rattle.tcs_terms.specs.declared.inputs.Event.{Event};
 ghost use Rattle.tcs_terms.specs.declared.inputs.Input.{Input};
 ghost use Rattle.tcs_terms.specs.declared.limits.TheConstants.{MAX_NODES};
 ghost use Rattle.tcs_terms.specs.declared.messages.Message.{Message};
-ghost use Rattle.tcs_terms.specs.Events.{event_fits};
 ghost use Rattle.tcs_terms.specs.Messages.{InRange};
 ghost use Rattle.tcs_terms.specs.Places.{Membership, IsMembership, is_node, is_shard};
 ghost use Rattle.tcs_terms.specs.Setups.{Deployment, IsDeployment};
@@ -17,7 +16,7 @@ ghost use Rattle.protocol.specs.Service.{serve};
 ghost use Rattle.protocol.specs.Table.{step};
 ghost use Rattle.protocol.specs.World.{World, first_node, first_world, world_step};
 ghost use Rattle.protocol_laws.specs.Ranges.{AreViews, ComesFromNode, IsEventInRange, IsHappeningInRange, IsInputInRange, IsNodeInRange, IsOutInRange, IsWorldInRange};
-ghost use Rattle.protocol_laws.specs.Runs.{AreEvents, EventStands, HandInPayloads};
+ghost use Rattle.protocol_laws.specs.Runs.{AreEventsOf, MayStand};
 
 /// A node begins in range.
 pub fn first_node_in_range()
@@ -44,7 +43,7 @@ pub fn first_world_in_range()
 
 /// An event of a run of a setup is in range.
 pub fn events_in_range()
-    ensures { (setup : Deployment) (event : Event) → IsDeployment setup → event_fits setup event ≡ true → EventStands event → IsEventInRange event }
+    ensures { (setup : Deployment) (event : Event) → IsDeployment setup → MayStand setup event → IsEventInRange event }
 {}
 
 /// One event keeps a world in range.
@@ -54,5 +53,5 @@ pub fn world_step_in_range()
 
 /// So every run of a setup is in range.
 pub fn run_in_range()
-    ensures { (tests : Tests) (setup : Deployment) (events : List Event) → AreEvents setup events → HandInPayloads events → IsWorldInRange (run tests setup events) }
+    ensures { (tests : Tests) (setup : Deployment) (events : List Event) → AreEventsOf setup events → IsWorldInRange (run tests setup events) }
 {}
