@@ -141,3 +141,8 @@ pub mod RangesWorld
 pub mod RangesStart
 pub mod RangesRun
 pub mod RefusedInputs
+pub mod StoredBelow
+pub mod LossesOf
+pub mod AmongNodes
+pub mod ShardNaming
+pub mod EmptyParts

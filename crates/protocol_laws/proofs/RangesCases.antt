@@ -1,13 +1,12 @@
 -- What a node coordinates with stays in range: its views, and its cases as they begin, go on and are asked again.
-use Rattle.std.proofs.Common.{◌≡◌, ℕ, ◌≤◌, Bool, true, false, cond, ◌==◌, IsTrue, List, [], ◌∷◌, ◌++◌, map, length, Option, Some, None, inl, inr, sym, ◌∙◌, ap, ap₂, subst, refl, eqb-true}
-use Rattle.std.specs.Prelude.{All, IfSome}
+use Rattle.std.proofs.Common.{◌≡◌, ℕ, ◌≤◌, Bool, true, false, cond, ◌==◌, IsTrue, List, [], ◌∷◌, map, length, Option, Some, None, inl, inr, sym, ◌∙◌, ap, ap₂, subst, refl, eqb-true}
+use Rattle.std.specs.Prelude.{IfSome}
 use Rattle.std.specs.List.{range_with_len}
 use Rattle.std.proofs.lemmas.List.{length-map}
 use Rattle.std.proofs.lemmas.List.Elements.{All-push}
 use Rattle.tcs_terms.specs.declared.ids.TxId.{TxId}
 use Rattle.tcs_terms.specs.declared.limits.TheConstants.{MAX_SHARDS}
 use Rattle.tcs_terms.specs.declared.messages.Outgoing.{Outgoing}
-use Rattle.tcs_terms.specs.Logs.{same_txn}
 use Rattle.tcs_terms.specs.Messages.{is_txn, IsEntry}
 use Rattle.tcs_terms.specs.Payloads.{Accesses, IsPayload}
 use Rattle.tcs_terms.specs.Places.{Membership, IsMembership, IsShardSet, is_shard}

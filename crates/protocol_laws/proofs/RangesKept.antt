@@ -1,5 +1,5 @@
 -- What a node keeps stays in range, whatever it does with an input in range.
-use Rattle.std.proofs.Common.{◌≡◌, ℕ, ◌+◌, ◌≤◌, Bool, true, false, cond, ◌&&◌, nat_le, IsTrue, List, [], ◌∷◌, ◌++◌, length, Option, Some, None, is_some, sym, subst, refl, arith}
+use Rattle.std.proofs.Common.{◌≡◌, ℕ, ◌+◌, ◌≤◌, Bool, true, false, cond, ◌&&◌, nat_le, IsTrue, List, [], ◌∷◌, ◌++◌, length, Some, None, is_some, sym, subst, arith}
 use Rattle.std.specs.Prelude.{All, IfSome}
 use Rattle.std.specs.Map.{lookup}
 use Rattle.std.proofs.lemmas.Bool.Decides.{nat_tests}
@@ -13,7 +13,7 @@ use Rattle.tcs_terms.specs.Logs.{same_txn}
 use Rattle.tcs_terms.specs.Messages.{is_txn, IsDecision, IsEntry, AreSentRows}
 use Rattle.tcs_terms.specs.Payloads.{Accesses, IsPayload}
 use Rattle.tcs_terms.specs.declared.messages.Outgoing.{Outgoing}
-use Rattle.tcs_terms.specs.Places.{Membership, IsMembership, is_node, is_shard, is_epoch, IsShardSet}
+use Rattle.tcs_terms.specs.Places.{Membership, IsMembership, is_node, is_shard, is_epoch}
 use Rattle.tcs_terms.specs.Shards.{shards_of}
 use Rattle.tcs_laws.specs.Certification.{Tests}
 use Rattle.tcs_terms.proofs.ShardLaws.{shards_are_a_set}

@@ -1,6 +1,5 @@
 -- Notices are in range: each kind has a number from 1 to 17, and each mark has four bytes.
-use Rattle.std.proofs.Common.{◌≡◌, ℕ, ◌+◌, ◌<◌, ◌≤◌, ◌^◌, Bool, true, false, cond, max, ◌&&◌, nat_le, IsTrue, List, [], ◌∷◌, Option, Some, None, sym, subst, refl, arith}
-use Rattle.std.proofs.lemmas.Bool.Decides.{nat_tests}
+use Rattle.std.proofs.Common.{◌≡◌, ℕ, ◌+◌, ◌<◌, ◌≤◌, ◌^◌, Bool, true, false, cond, max, ◌&&◌, nat_le, List, [], ◌∷◌, Option, Some, None, sym, subst, refl, arith}
 use Rattle.tcs_terms.specs.declared.inputs.Handled.{Handled}
 use Rattle.tcs_terms.specs.declared.inputs.Handled.TheVariants.{Acted, Stale, Held, Full}
 use Rattle.tcs_terms.specs.declared.inputs.Input.{Input}
@@ -11,7 +10,7 @@ use Rattle.tcs_terms.specs.declared.messages.Message.TheVariants.{Prepare, Prepa
 use Rattle.tcs_terms.specs.declared.messages.Outgoing.{Outgoing}
 use Rattle.tcs_terms.specs.declared.messages.Why.{Why}
 use Rattle.tcs_terms.specs.declared.messages.Why.TheVariants as why
-use Rattle.tcs_terms.specs.Places.{Membership, IsMembership, is_epoch}
+use Rattle.tcs_terms.specs.Places.{Membership}
 use Rattle.wire_frame.specs.Spelling.{kind_of}
 use Rattle.protocol.specs.Notices.{notice_of}
 use Rattle.protocol.specs.Outcomes.{to}
@@ -19,7 +18,7 @@ use Rattle.protocol.specs.Probing.{prober_epoch}
 use Rattle.protocol.specs.Records.{Stage, NodeRecord}
 use Rattle.protocol.specs.Records.Stage.{Idle, AskedLast, Probing, AskedLower, CasSent}
 use Rattle.protocol.specs.Views.{view_of, epoch_of}
-use Rattle.protocol_laws.specs.Effect.{is_answered, notices_to, notices_for, IsMark, Tells, IsRefusal}
+use Rattle.protocol_laws.specs.Effect.{is_answered, notices_for, IsMark, Tells, IsRefusal}
 use Rattle.protocol_laws.specs.Effect.IsMark.{NoMark, Promised, Reached, Least, Viewed, Wanted}
 use Rattle.protocol_laws.specs.Ranges.{IsStageInRange, IsNodeInRange}
 use Rattle.protocol_laws.proofs.RangesCases.{view-in_range}

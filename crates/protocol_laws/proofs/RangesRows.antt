@@ -1,9 +1,7 @@
 -- The rows of a node's log stay such as may be sent, and so do those that it gathers.
-use Rattle.std.proofs.Common.{◌≡◌, ℕ, Bool, true, false, cond, ◌&&◌, nat_le, IsTrue, is_none, List, [], ◌∷◌, ◌++◌, find, flat_map, Option, Some, None, inl, inr, sym, ap, subst, refl}
+use Rattle.std.proofs.Common.{◌≡◌, ℕ, Bool, true, false, cond, ◌&&◌, nat_le, IsTrue, List, [], ◌∷◌, ◌++◌, find, Option, Some, None, inl, inr, sym, subst, refl}
 use Rattle.std.specs.Prelude.{All, IfSome}
-use Rattle.std.proofs.lemmas.Bool.{and_parts}
 use Rattle.tcs_terms.specs.declared.ids.TxId.{TxId}
-use Rattle.tcs_terms.specs.declared.inputs.Input.{Input}
 use Rattle.tcs_terms.specs.declared.limits.TheConstants.{MAX_PIECES}
 use Rattle.tcs_terms.specs.declared.logs.Row.{Row}
 use Rattle.tcs_terms.specs.Logs.{AreRows}
@@ -13,11 +11,9 @@ use Rattle.tcs_terms.specs.Places.{Membership, IsMembership, IsShardSet}
 use Rattle.tcs_terms.specs.Preparations.{Preparation}
 use Rattle.tcs_laws.specs.Certification.{Tests}
 use Rattle.tcs_laws.specs.Votes.{clashes, vote_by, vote_on}
-use Rattle.tcs_terms.proofs.BoolLaws.{both}
 use Rattle.protocol.specs.Log.{row_of, is_full, new_entry, undecided, vote_on_part, is_taken, accepted, marked, mark_of}
 use Rattle.protocol.specs.Pieces.{rows_of, is_kept, with_piece, with_one_more, begun, is_gathering_of, gathering_for, gathered_from, takes_piece}
-use Rattle.protocol.specs.Records.{Piece, Gathering, NodeRecord}
-use Rattle.protocol.specs.Invariant.Logs.{entries_of}
+use Rattle.protocol.specs.Records.{Piece, Gathering}
 use Rattle.protocol.specs.Invariant.Time.{StandsIn}
 use Rattle.protocol.proofs.Lists.{StandsIn-append, all-StandsIn, find-StandsIn}
 use Rattle.protocol_laws.specs.Ranges.{IsGatheringInRange}
@@ -29,10 +25,9 @@ use Rattle.protocol_laws.proofs.PromisesOrder.{slot_fits}
 use Rattle.protocol_laws.proofs.PromisesPieces.{gathered-rows}
 use Rattle.protocol_laws.proofs.PromisesRows.{appended-rows, accepted-rows, same_entries-rows}
 use Rattle.protocol_laws.proofs.Standing.{StandsIn-left, StandsIn-right, IsPiece, flat_map-StandsIn}
-use Rattle.protocol_laws.proofs.TransactionsRows.{IsMarked, marked_came, PieceCame, piece_came}
+use Rattle.protocol_laws.proofs.TransactionsRows.{marked_came, PieceCame, piece_came}
 use Rattle.protocol_laws.proofs.TransactionsRows.PieceCame.{IsNewPiece, IsOldPiece}
 use Rattle.protocol_laws.proofs.TransactionsRowsKept.{keeps_payload}
-use Rattle.protocol_laws.proofs.TransferPieces.{same_config-is}
 
 abbrev pub HasEntry : Row → Type 0
 HasEntry r = IsEntry r.entry

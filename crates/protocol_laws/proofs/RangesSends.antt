@@ -1,5 +1,5 @@
 -- What a node sends is in range, message by message, and goes to a node or to the service.
-use Rattle.std.proofs.Common.{◌≡◌, ℕ, ◌+◌, ◌-◌, ◌*◌, ◌<◌, ◌≤◌, Bool, true, false, cond, not, ◌&&◌, ◌==◌, nat_le, IsTrue, List, [], ◌∷◌, ◌++◌, find, filter, map, flat_map, length, take, drop, Option, Some, None, option_and_then, is_some, inl, inr, sym, subst, refl, arith, ltb-true, leb-true}
+use Rattle.std.proofs.Common.{◌≡◌, ℕ, ◌+◌, ◌-◌, ◌*◌, ◌<◌, ◌≤◌, Bool, true, false, cond, not, ◌&&◌, ◌==◌, nat_le, IsTrue, List, [], ◌∷◌, find, map, flat_map, length, drop, Option, Some, None, option_and_then, is_some, refl, arith, ltb-true, leb-true}
 use Rattle.std.specs.Prelude.{All, IfSome, nat_lt}
 use Rattle.std.specs.List.{list_all, range_with_len}
 use Rattle.std.proofs.lemmas.Bool.Decides.{nat_tests}
@@ -10,7 +10,7 @@ use Rattle.tcs_terms.specs.declared.inputs.Input.TheVariants as inputs
 use Rattle.tcs_terms.specs.declared.limits.TheConstants.{MAX_NODES, MAX_WANTED, MAX_SLOT, MAX_PIECES, MAX_PIECE_ROWS}
 use Rattle.tcs_terms.specs.declared.logs.Row.{Row}
 use Rattle.tcs_terms.specs.declared.messages.Message.{Message}
-use Rattle.tcs_terms.specs.declared.messages.Message.TheVariants.{Prepare, PrepareAck, Accept, AcceptAck, DecisionFor, Probe, ProbeAck, NewConfig, NewState, ConfigChange, Last, At, Cas, Stored, OutcomeOf, Refused, StatePiece}
+use Rattle.tcs_terms.specs.declared.messages.Message.TheVariants.{Prepare, Accept, Probe, NewConfig, NewState, Last, At, Cas, StatePiece}
 use Rattle.tcs_terms.specs.declared.messages.Outgoing.{Outgoing}
 use Rattle.tcs_terms.specs.declared.votes.Cause.{Cause}
 use Rattle.tcs_terms.specs.declared.votes.Vote.{Vote}
@@ -25,7 +25,7 @@ use Rattle.tcs_terms.specs.Preparations.{Preparation}
 use Rattle.tcs_terms.specs.Shards.{part_in, restricted}
 use Rattle.tcs_terms.proofs.BoolLaws.{left_of, right_of}
 use Rattle.tcs_terms.proofs.ShardLaws.{part_is_payload}
-use Rattle.protocol.specs.Cases.{accept, send_case, cause_by, cause_of, decision_at, decision_by, decision_of, commits, tell_decision}
+use Rattle.protocol.specs.Cases.{accept, send_case, cause_by, cause_of, decision_at, decision_by, decision_of, tell_decision}
 use Rattle.protocol.specs.Coordination.{resend, ask_leader}
 use Rattle.protocol.specs.Outcomes.{to}
 use Rattle.protocol.specs.Pieces.{piece_count, piece_of}
@@ -33,7 +33,7 @@ use Rattle.protocol.specs.Probing.{probe, ask_stage, tell_leader}
 use Rattle.protocol.specs.Records.{Part, Case, Coordinator, Stage}
 use Rattle.protocol.specs.Records.Stage.{Idle, AskedLast, Probing, AskedLower, CasSent}
 use Rattle.protocol.specs.ShardRules.{state_to}
-use Rattle.protocol.specs.Views.{view_of, followers}
+use Rattle.protocol.specs.Views.{followers}
 use Rattle.protocol.specs.Invariant.Time.{StandsIn}
 use Rattle.protocol.proofs.Lists.{find-StandsIn, all-StandsIn, among-StandsIn}
 use Rattle.protocol_laws.specs.Effect.{Hears}
@@ -46,7 +46,7 @@ use Rattle.protocol_laws.proofs.RangesCases.{view-in_range, case-in_range}
 use Rattle.protocol_laws.proofs.RangesRows.{HasEntry}
 use Rattle.protocol_laws.proofs.RangesStage.{epoch-above}
 use Rattle.protocol_laws.proofs.Sendable.{IsSendable}
-use Rattle.protocol_laws.proofs.Sends.{Each, each-none, each-one, each-both, each-map, each-flat_map, each-when, each-accept, each-case, each-resend, each-ask_leader, each-decision}
+use Rattle.protocol_laws.proofs.Sends.{Each, each-none, each-one, each-map, each-flat_map, each-when, each-accept, each-case, each-resend, each-ask_leader, each-decision}
 use Rattle.protocol_laws.proofs.Standing.{filter-StandsIn, range-StandsIn, take-StandsIn, drop-StandsIn}
 
 pub node-few : (n : ℕ) → IsTrue (is_node n) → n ≤ MAX_NODES

@@ -1,5 +1,5 @@
 -- Whatever a node does with an input in range, what it sends and notes is in range.
-use Rattle.std.proofs.Common.{◌≡◌, ℕ, ◌-◌, ◌≤◌, IsTrue, List, [], ◌∷◌, ◌++◌, length, Option, Some, None, subst, sym, refl}
+use Rattle.std.proofs.Common.{ℕ, ◌-◌, List, [], ◌∷◌, Some, subst}
 use Rattle.std.specs.Prelude.{All}
 use Rattle.std.proofs.lemmas.List.Elements.{All-nil, All-cons}
 use Rattle.tcs_terms.specs.declared.ids.TxId.{TxId}
@@ -12,12 +12,12 @@ use Rattle.tcs_terms.specs.declared.messages.Outgoing.{Outgoing}
 use Rattle.tcs_terms.specs.Messages.{InRange}
 use Rattle.tcs_terms.specs.Places.{Membership, IsMembership}
 use Rattle.tcs_laws.specs.Certification.{Tests}
-use Rattle.protocol.specs.Cases.{accept, decision_of}
+use Rattle.protocol.specs.Cases.{accept}
 use Rattle.protocol.specs.ClientRules.{next_txn}
-use Rattle.protocol.specs.Coordination.{with_part, voted, acknowledged, first_entry, resend, ask_leader}
+use Rattle.protocol.specs.Coordination.{with_part, voted, acknowledged, first_entry, resend}
 use Rattle.protocol.specs.Outcomes.{Out, to}
 use Rattle.protocol.specs.Probing.{ask_stage, proposed}
-use Rattle.protocol.specs.Records.{Case, Coordinator, Stage, NodeRecord}
+use Rattle.protocol.specs.Records.{Case, Coordinator, NodeRecord}
 use Rattle.protocol.specs.Records.Stage.{Probing}
 use Rattle.protocol_laws.specs.Effect.{Sees, GoesOn, Effect}
 use Rattle.protocol_laws.specs.Effect.Effect.{Rests, Certifies, TakesOver, Nudges, Moves, Lowers, Reads, Asks, AnswersAgain, Appends, Votes, Acknowledges, Changes, Learns, Keeps, Accepts, Marks, Promises, Chooses, FindsLow, Leads, Follows, Gathers, FollowsPieces}

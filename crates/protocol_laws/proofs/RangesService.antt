@@ -1,5 +1,5 @@
 -- What the configuration service stores and sends is in range.
-use Rattle.std.proofs.Common.{◌≡◌, ℕ, ◌+◌, ◌<◌, ◌≤◌, ◌^◌, List, [], ◌∷◌, ◌++◌, Option, Some, None, inl, inr, refl, arith}
+use Rattle.std.proofs.Common.{◌≡◌, ℕ, ◌<◌, ◌≤◌, ◌^◌, List, [], ◌∷◌, Option, Some, None, refl, arith}
 use Rattle.std.specs.Prelude.{All}
 use Rattle.std.specs.List.{range_with_len}
 use Rattle.std.proofs.lemmas.List.Elements.{All-push, All-nil}
@@ -8,13 +8,11 @@ use Rattle.tcs_terms.specs.declared.inputs.Input.TheVariants as inputs
 use Rattle.tcs_terms.specs.declared.limits.TheConstants.{MAX_NODES, MAX_EPOCH}
 use Rattle.tcs_terms.specs.declared.messages.Message.{Message}
 use Rattle.tcs_terms.specs.declared.messages.Message.TheVariants.{Cas, ConfigChange, Stored}
-use Rattle.tcs_terms.specs.declared.messages.Outgoing.{Outgoing}
 use Rattle.tcs_terms.specs.Messages.{InRange}
 use Rattle.tcs_terms.specs.Places.{Membership, IsMembership}
 use Rattle.protocol.specs.Outcomes.{Out, to}
 use Rattle.protocol.specs.Service.{last_config, tell_nodes}
 use Rattle.protocol.specs.Views.{epoch_of}
-use Rattle.protocol.specs.Invariant.Time.{StandsIn}
 use Rattle.protocol_laws.specs.Change.{IsServiceMark, Serves}
 use Rattle.protocol_laws.specs.Change.IsServiceMark.{NoMark, LastEpoch}
 use Rattle.protocol_laws.specs.Change.Serves.{HoldsBack, Tells, Stores}

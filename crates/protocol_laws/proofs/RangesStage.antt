@@ -1,6 +1,5 @@
 -- The stage of a node's prober stays in range.
-use Rattle.std.proofs.Common.{◌≡◌, ℕ, ◌+◌, ◌-◌, ◌<◌, ◌≤◌, Bool, true, ◌&&◌, IsTrue, List, subst, arith}
-use Rattle.std.specs.Prelude.{nat_le}
+use Rattle.std.proofs.Common.{◌≡◌, ℕ, ◌+◌, ◌-◌, ◌<◌, ◌≤◌, true, IsTrue, List, subst, arith}
 use Rattle.std.proofs.lemmas.Bool.Decides.{nat_tests}
 use Rattle.tcs_terms.specs.declared.inputs.Input.{Input}
 use Rattle.tcs_terms.specs.declared.limits.TheConstants.{MAX_NODES, MAX_EPOCH}
@@ -10,7 +9,7 @@ use Rattle.tcs_laws.specs.Certification.{Tests}
 use Rattle.protocol.specs.Outcomes.{Out}
 use Rattle.protocol.specs.Probing.{proposed}
 use Rattle.protocol.specs.Records.{Stage, NodeRecord}
-use Rattle.protocol.specs.Records.Stage.{Idle, AskedLast, Probing, AskedLower, CasSent}
+use Rattle.protocol.specs.Records.Stage.{Probing}
 use Rattle.protocol.proofs.Lists.{all-StandsIn, among-StandsIn}
 use Rattle.protocol_laws.specs.Effect.{Hears, Effect}
 use Rattle.protocol_laws.specs.Effect.Effect.{Moves, Lowers, Learns, Chooses, FindsLow}

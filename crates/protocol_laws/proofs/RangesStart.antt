@@ -1,6 +1,5 @@
 -- A world begins in range, and an event that fits the setup is in range.
-use Rattle.std.proofs.Common.{◌≡◌, ℕ, zero, suc, ◌+◌, ◌-◌, ◌<◌, ◌≤◌, Bool, true, false, cond, IsTrue, ◌&&◌, ◌||◌, ◌==◌, nat_le, List, [], ◌∷◌, map, length, Option, Some, None, find, inl, inr, sym, ◌∙◌, ap, subst, refl, arith}
-use Rattle.std.specs.Prelude.{All}
+use Rattle.std.proofs.Common.{◌≡◌, ℕ, zero, suc, ◌+◌, ◌≤◌, Bool, true, false, cond, IsTrue, ◌&&◌, ◌==◌, nat_le, List, [], ◌∷◌, length, Option, Some, None, inl, inr, sym, ◌∙◌, ap, subst, refl, arith}
 use Rattle.std.specs.List.{list_all, range_with_len}
 use Rattle.std.proofs.lemmas.Bool.Decides.{nat_tests}
 use Rattle.std.proofs.lemmas.List.{length-map}
@@ -11,8 +10,7 @@ use Rattle.tcs_terms.specs.declared.inputs.Input.{Input}
 use Rattle.tcs_terms.specs.declared.inputs.Input.TheVariants as inputs
 use Rattle.tcs_terms.specs.declared.limits.TheConstants.{MAX_SHARDS, MAX_NODES, MAX_EPOCH, MAX_WANTED}
 use Rattle.tcs_terms.specs.Events.{input_fits, has_shard, InputInRange}
-use Rattle.tcs_terms.specs.Logs.{AreRows}
-use Rattle.tcs_terms.specs.Messages.{IsEntry, AreSentRows}
+use Rattle.tcs_terms.specs.Messages.{AreSentRows}
 use Rattle.tcs_terms.specs.Order.{ascends}
 use Rattle.tcs_terms.specs.Places.{Membership, IsMembership, is_node, is_shard, is_among}
 use Rattle.tcs_terms.specs.Setups.{Deployment, IsDeployment, has_node, is_node_of}
@@ -20,9 +18,8 @@ use Rattle.tcs_terms.proofs.BoolLaws.{both, left_of, right_of}
 use Rattle.protocol.specs.Records.{Role, NodeRecord}
 use Rattle.protocol.specs.Records.Role.{Fenced, Leader, Follower}
 use Rattle.protocol.specs.Views.{view_of}
-use Rattle.protocol.specs.World.{first_role, first_epoch, first_node, first_node_as, first_nodes, first_world}
+use Rattle.protocol.specs.World.{first_role, first_epoch, first_node, first_nodes, first_world}
 use Rattle.protocol.specs.Invariant.Time.{StandsIn}
-use Rattle.protocol.proofs.FirstNodes.{IsFirst, first_nodes-IsFirst}
 use Rattle.protocol.proofs.Lists.{all-StandsIn, find-StandsIn}
 use Rattle.protocol_laws.specs.Ranges.{IsRoleInRange, AreViews, IsNodeInRange, IsInputInRange, ComesFromNode, IsNoteInRange, IsSentInRange, IsWorldInRange, IsEventInRange}
 use Rattle.protocol_laws.specs.Runs.{IsInput, MayStand}

@@ -1,5 +1,5 @@
 -- One event keeps a world in range.
-use Rattle.std.proofs.Common.{◌≡◌, ℕ, ◌≤◌, IsTrue, Bool, true, cond, ◌==◌, List, [], ◌∷◌, ◌++◌, map, length, inl, inr, sym, subst, refl, arith}
+use Rattle.std.proofs.Common.{ℕ, ◌≤◌, cond, ◌==◌, List, length, inl, inr, sym, subst, arith}
 use Rattle.std.specs.Prelude.{All}
 use Rattle.std.proofs.lemmas.List.{length-map}
 use Rattle.std.proofs.lemmas.List.Elements.{All-nil, All-append}
@@ -16,8 +16,7 @@ use Rattle.protocol.specs.Outcomes.{Out}
 use Rattle.protocol.specs.Records.{NodeRecord}
 use Rattle.protocol.specs.Service.{serve}
 use Rattle.protocol.specs.Table.{step}
-use Rattle.protocol.specs.World.{World, Sent, Happening, put_node, sent_by, happens_at, happens_at_service, world_step}
-use Rattle.protocol.specs.Invariant.Time.{StandsIn}
+use Rattle.protocol.specs.World.{World, Happening, put_node, sent_by, happens_at, happens_at_service, world_step}
 use Rattle.protocol_laws.specs.Change.{Comes, Serves, Change}
 use Rattle.protocol_laws.specs.Change.Change.{Passes, Stops, Acts, AtService}
 use Rattle.protocol_laws.specs.Change.Comes.{ByCall, ByMessage}
@@ -31,7 +30,7 @@ use Rattle.protocol_laws.proofs.RangesKept.{kept-in_range}
 use Rattle.protocol_laws.proofs.RangesSends.{node-few}
 use Rattle.protocol_laws.proofs.RangesSent.{sent-in_range, noted-in_range}
 use Rattle.protocol_laws.proofs.RangesService.{served-kept, served-sent, served-notes}
-use Rattle.protocol_laws.proofs.Sendable.{IsSendable, sendable-in_range, sendable-to}
+use Rattle.protocol_laws.proofs.Sendable.{sendable-in_range, sendable-to}
 use Rattle.protocol_laws.proofs.ServesOf.{serves_of}
 use Rattle.protocol_laws.proofs.Standing.{map-StandsIn, IsMapped}
 
@@ -60,8 +59,8 @@ serve-in_range nodes configs from message few k i = serves-in_range nodes config
 -- messages that a node or the service sent
 sent_by-in_range : {A : Type 0} (Kept : A → Type 0) (From : Type 0) (from : ℕ) (out : Out A) → from ≤ MAX_NODES → From → IsOutInRange Kept From out → All IsSentInRange (sent_by from out.sends)
 sent_by-in_range Kept From from out few source k = all-of IsSentInRange (sent_by from out.sends) (λ s m. (
-  let i : IsMapped (λ (o : Outgoing). record { from = from; to = o.to; message = o.message }) out.sends s = map-StandsIn (λ (o : Outgoing). record { from = from; to = o.to; message = o.message }) out.sends s m in
-  subst IsSentInRange (sym i.is) (record { from = few; to = all-at (λ (o : Outgoing). o.to ≤ MAX_NODES) out.sends (k.to source) i.from i.there; message = all-at (λ (o : Outgoing). InRange o.message) out.sends k.sends i.from i.there })))
+    let i : IsMapped (λ (o : Outgoing). record { from = from; to = o.to; message = o.message }) out.sends s = map-StandsIn (λ (o : Outgoing). record { from = from; to = o.to; message = o.message }) out.sends s m in
+    subst IsSentInRange (sym i.is) (record { from = few; to = all-at (λ (o : Outgoing). o.to ≤ MAX_NODES) out.sends (k.to source) i.from i.there; message = all-at (λ (o : Outgoing). InRange o.message) out.sends k.sends i.from i.there })))
 
 put-in_range : (node : NodeRecord) (nodes : List NodeRecord) → IsNodeInRange node → All IsNodeInRange nodes → All IsNodeInRange (put_node node nodes)
 put-in_range node nodes k h = all-of IsNodeInRange (put_node node nodes) (λ n s. (elim (put_node-back node nodes n s) [ inl e ↦ subst IsNodeInRange (sym e) k | inr r ↦ all-at IsNodeInRange nodes h n r.0 ]))

@@ -1,16 +1,13 @@
 -- What a node, the service or a world refuses changes nothing.
-use Rattle.std.proofs.Common.{◌≡◌, ℕ, Bool, true, false, cond, ◌==◌, IsTrue, List, [], ◌∷◌, ◌++◌, map, Some, inl, inr, sym, ◌∙◌, ap, ap₂, subst, refl, append-nil, eqb-true}
+use Rattle.std.proofs.Common.{◌≡◌, ℕ, Bool, true, false, cond, ◌==◌, IsTrue, List, [], ◌∷◌, ◌++◌, map, inl, inr, sym, ◌∙◌, ap, ap₂, subst, refl, append-nil, eqb-true}
 use Rattle.tcs_terms.specs.declared.inputs.Event.{Event}
 use Rattle.tcs_terms.specs.declared.inputs.Handled.{Handled}
 use Rattle.tcs_terms.specs.declared.inputs.Handled.TheVariants.{Acted, Stale, Held, Full}
 use Rattle.tcs_terms.specs.declared.inputs.Input.{Input}
 use Rattle.tcs_terms.specs.declared.inputs.Input.TheVariants as inputs
 use Rattle.tcs_terms.specs.declared.inputs.Note.{Note}
-use Rattle.tcs_terms.specs.declared.inputs.Result1.{Result1}
-use Rattle.tcs_terms.specs.declared.inputs.Result1.TheVariants.{Node, Gone, Unsent}
+use Rattle.tcs_terms.specs.declared.inputs.Result1.TheVariants.{Node}
 use Rattle.tcs_terms.specs.declared.messages.Message.{Message}
-use Rattle.tcs_terms.specs.declared.messages.Message.TheVariants.{Refused}
-use Rattle.tcs_terms.specs.declared.messages.Outgoing.{Outgoing}
 use Rattle.tcs_terms.specs.declared.messages.Why.TheVariants as why
 use Rattle.tcs_terms.specs.Order.{ascends}
 use Rattle.tcs_terms.specs.Places.{Membership}
@@ -29,7 +26,7 @@ use Rattle.protocol_laws.specs.Change.Change.{Passes, Stops, Acts, AtService}
 use Rattle.protocol_laws.specs.Change.Serves.{HoldsBack, Tells, Stores}
 use Rattle.protocol_laws.specs.Effect.{is_answered, notices_to, notices_for, Effect}
 use Rattle.protocol_laws.specs.Effect.Effect.{Rests}
-use Rattle.protocol_laws.specs.Refusals.{ChangesNothing, IsNotice, Silent, Notice, reached_nobody, LeavesWorld}
+use Rattle.protocol_laws.specs.Refusals.{ChangesNothing, IsNotice, Silent, Notice, LeavesWorld}
 use Rattle.protocol_laws.proofs.Ascending.{ascending-one}
 use Rattle.protocol_laws.proofs.ChangeOf.{change_of}
 use Rattle.protocol_laws.proofs.EffectOf.{effect_of}

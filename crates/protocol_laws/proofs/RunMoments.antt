@@ -77,14 +77,12 @@ run_between tests setup events before after f = elim (event_between tests setup.
   | inr g ↦ absurd (not_first (first_world setup) before after g)
 ]
 
--- of what a run decided to be lost, an event of it found nothing in the named shard
-pub run-found_nothing : (tests : Tests) (setup : Deployment) (events : List Event) (txn : TxId) (shard : ℕ) → AreEventsOf setup events
-    → WasNoted (time_after tests setup events) (Decide txn (Abort shard Lost)) → found_nothing tests setup events txn shard ≡ true
+-- of what a shard of a run found nothing between two worlds, an event of the run found nothing
+pub found-by_event : (tests : Tests) (setup : Deployment) (events : List Event) (txn : TxId) (shard : ℕ) → AreEventsOf setup events
+    → FoundNothingBy (time_after tests setup events) txn shard → found_nothing tests setup events txn shard ≡ true
 unfolding run
-run-found_nothing tests setup events txn shard a noted =
-    let r : Remembers tests setup (time_after tests setup events) = remembers_at tests setup events a in
-    let f : FoundNothingBy (time_after tests setup events) txn shard = lost-found tests setup (time_after tests setup events) txn shard (invariant_at tests setup events a) r.past noted in
-    go r f (run_between tests setup events f.before f.after (record { later = f.later; earlier = f.earlier; is = f.moments }))
+found-by_event tests setup events txn shard a f =
+    go (remembers_at tests setup events a) f (run_between tests setup events f.before f.after (record { later = f.later; earlier = f.earlier; is = f.moments }))
   where
     go : Remembers tests setup (time_after tests setup events) → (f : FoundNothingBy (time_after tests setup events) txn shard) → EventBetween tests setup.version (first_world setup) events f.before f.after → found_nothing tests setup events txn shard ≡ true
     go r f b =
@@ -98,3 +96,9 @@ run-found_nothing tests setup events txn shard a noted =
         (any-with_past (λ e. finds_nothing_in tests setup.version (run tests setup e.0) txn shard e.1) b.past b.event b.rest
         (subst (λ x. finds_nothing_in tests setup.version x txn shard b.event ≡ true) b.before_is
         (and_from (finds_nothing f.before txn shard b.event) (has_acted (world_step tests setup.version f.before b.event).result) i.finds i.acted)))
+
+-- of what a run decided to be lost, an event of it found nothing in the named shard
+pub run-found_nothing : (tests : Tests) (setup : Deployment) (events : List Event) (txn : TxId) (shard : ℕ) → AreEventsOf setup events
+    → WasNoted (time_after tests setup events) (Decide txn (Abort shard Lost)) → found_nothing tests setup events txn shard ≡ true
+run-found_nothing tests setup events txn shard a noted =
+    found-by_event tests setup events txn shard a (lost-found tests setup (time_after tests setup events) txn shard (invariant_at tests setup events a) (remembers_at tests setup events a).past noted)

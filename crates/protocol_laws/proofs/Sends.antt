@@ -78,7 +78,7 @@ unfolding accept
 each-accept_in P entry acks None h = each-none P
 each-accept_in P entry acks (Some v) h = each-accept P entry acks v (λ node s. h v node refl s)
 
-each-part : (P : Outgoing → Type 0) (n : ℕ) (txn : TxId) (case : Case) (entry : Option Preparation) (acks : List ℕ) (view : Option Membership)
+pub each-part : (P : Outgoing → Type 0) (n : ℕ) (txn : TxId) (case : Case) (entry : Option Preparation) (acks : List ℕ) (view : Option Membership)
     → ((v : Membership) → view ≡ Some v → P (to v.leader (Prepare v.epoch txn case.shards (option_and_then (restricted n v.shard) case.payload))))
     → ((x : Preparation) (v : Membership) (node : ℕ) → entry ≡ Some x → view ≡ Some v → StandsIn node (followers v) → P (to node (Accept v.epoch x))) → Each P (send_part n txn case entry acks view)
 unfolding send_part

@@ -9,3 +9,7 @@ pub mod Promises
 pub mod Growth
 pub mod Ranges
 pub mod Refusals
+pub mod EpochsBelow
+pub mod Losses
+pub mod Addresses
+pub mod NamedShards

@@ -1,6 +1,6 @@
 -- What a node, the configuration service and a world keep in range, so that whatever is sent is in range: each message of
 -- each run has a spelling in bytes.
-use Rattle.std.specs.Prelude.{◌≡◌, ℕ, ◌+◌, ◌^◌, ◌<◌, ◌≤◌, ◌&&◌, nat_le, List, length, map, IsTrue, All, IfSome}
+use Rattle.std.specs.Prelude.{◌≡◌, ◌+◌, ◌≤◌, ◌&&◌, nat_le, List, length, map, IsTrue, All, IfSome}
 use Rattle.std.specs.List.{range_with_len}
 use Rattle.tcs_terms.specs.declared.ids.TxId.{TxId}
 use Rattle.tcs_terms.specs.declared.inputs.Event.{Event}
@@ -12,10 +12,9 @@ use Rattle.tcs_terms.specs.declared.inputs.Note.{Note}
 use Rattle.tcs_terms.specs.declared.inputs.Note.TheVariants as notes
 use Rattle.tcs_terms.specs.declared.limits.TheConstants.{MAX_SHARDS, MAX_NODES, MAX_EPOCH, MAX_SEQUENCE, MAX_PIECES}
 use Rattle.tcs_terms.specs.declared.messages.Outgoing.{Outgoing}
-use Rattle.tcs_terms.specs.declared.votes.Decision.{Decision}
 use Rattle.tcs_terms.specs.Events.{InputInRange}
 use Rattle.tcs_terms.specs.Messages.{is_txn, IsDecision, IsEntry, AreSentRows, InRange}
-use Rattle.tcs_terms.specs.Payloads.{Accesses, IsPayload}
+use Rattle.tcs_terms.specs.Payloads.{IsPayload}
 use Rattle.tcs_terms.specs.Places.{Membership, IsMembership, IsShardSet, is_shard, is_node, is_epoch}
 use Rattle.protocol.specs.Outcomes.{Out}
 use Rattle.protocol.specs.Pieces.{rows_of}
