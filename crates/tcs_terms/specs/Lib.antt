@@ -12,6 +12,7 @@ pub mod Setups
 pub mod SetupFaults
 pub mod Messages
 pub mod Events
+pub mod Runs
 pub mod PayloadText
 pub mod Words
 pub mod Texts
