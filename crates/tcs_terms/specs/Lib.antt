@@ -11,6 +11,8 @@ pub mod RowFaults
 pub mod Setups
 pub mod SetupFaults
 pub mod Messages
+pub mod Kinds
+pub mod Versions
 pub mod Events
 pub mod Runs
 pub mod PayloadText
