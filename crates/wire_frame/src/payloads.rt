@@ -283,10 +283,8 @@ pub fn payload_of(alloc: Global, bytes: &[u8]) -> Result<(Payload, &[u8]), ReadE
     ensures { Gives (λ x. (x.0, x.1.now)) result (payload_at bytes.now) }
 {
     let (parts, rest) = payload_parts(alloc, bytes)?;
-    match Payload::build_ranges(parts.reads, parts.ranges, parts.writes, parts.version) {
-        Ok(payload) => Ok((payload, rest)),
-        Err(_) => unreachable!(),
-    }
+    let payload = Payload::of(parts.reads, parts.ranges, parts.writes, parts.version)?;
+    Ok((payload, rest))
 }
 
 #[tactic(auto, unfolding(crate::specs::Parts::maybe_at))]
