@@ -7,3 +7,4 @@ pub mod Rising
 pub mod Told
 pub mod Promises
 pub mod Growth
+pub mod Exchange

@@ -2,6 +2,7 @@
 #![tactic(auto)]
 
 pub mod copies;
+pub mod exchange;
 pub mod growth;
 pub mod histories;
 pub mod invariant;
