@@ -49,7 +49,6 @@ pub mod EntriesCasesKept
 pub mod EntriesKept
 pub mod EntriesListed
 pub mod EntriesListsKept
-pub mod EventsOf
 pub mod Exchanges
 pub mod LogRows
 pub mod FoundInRun
