@@ -5,6 +5,7 @@ use Rattle.std.proofs.lemmas.Grind.{flat_map-append}
 use Rattle.std.proofs.lemmas.List.{append-nil, length-append, length-map}
 use Rattle.tcs_terms.specs.declared.inputs.Event.{Event}
 use Rattle.tcs_terms.specs.declared.limits.TheConstants.{MAX_NODES, MAX_SHARDS}
+use Rattle.tcs_terms.specs.Runs.{MayStand}
 use Rattle.tcs_terms.specs.Setups.{Deployment}
 use Rattle.schedule_text.specs.declared.limits.TheConstants.{EVENT_LIMIT}
 use Rattle.schedule_text.specs.declared.lines.Got.TheVariants.{Whole}
@@ -15,7 +16,7 @@ use Rattle.schedule_text.specs.declared.reader.LineItem.TheVariants as items
 use Rattle.schedule_text.specs.Lines.{IsLine}
 use Rattle.schedule_text.specs.Schedules.{Progress, at_start, line_reading}
 use Rattle.schedule_text.specs.Text.{with_feed, setup_lines, first_lines, node_lines, config_line, event_line}
-use Rattle.schedule_text.specs.Whole.{MayStand, reads, schedule_items, header_items}
+use Rattle.schedule_text.specs.Whole.{reads, schedule_items, header_items}
 use Rattle.schedule_text.specs.Bytes.{Taken, IsNext, events_on, setups_on}
 use Rattle.schedule_text.proofs.ScheduleReadings.{Stands, EventsStand, reads_take, start_stands, lines_at, items_at, headed, event_items}
 use Rattle.schedule_text.proofs.HeaderReadings.{head_lines, HeadStands}

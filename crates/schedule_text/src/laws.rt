@@ -4,6 +4,7 @@ ghost use Rattle.std.specs.List.{AllByRecursion};
 ghost use Rattle.tcs_terms.specs.declared.inputs.Event.{Event};
 ghost use Rattle.tcs_terms.specs.declared.words.Reason.{Reason};
 ghost use Rattle.tcs_terms.specs.declared.limits.TheConstants.{MAX_NODES, MAX_SHARDS};
+ghost use Rattle.tcs_terms.specs.Runs.{MayStand};
 ghost use Rattle.tcs_terms.specs.Setups.{Deployment};
 ghost use Rattle.schedule_text.specs.declared.limits.TheConstants.{EVENT_LIMIT};
 ghost use Rattle.schedule_text.specs.declared.lines.Got.TheVariants.{Whole};
@@ -13,7 +14,7 @@ ghost use Rattle.schedule_text.specs.Lines.{IsLine};
 ghost use Rattle.schedule_text.specs.Text.{schedule_lines};
 ghost use Rattle.schedule_text.specs.Schedules.{Progress, at_start, line_reading};
 ghost use Rattle.schedule_text.specs.Bytes.{IsText, Taken, FirstBad, events_on};
-ghost use Rattle.schedule_text.specs.Whole.{IsSchedule, MayStand, IsRead, Begins, reads, schedule_items, at_end};
+ghost use Rattle.schedule_text.specs.Whole.{IsSchedule, IsRead, Begins, reads, schedule_items, at_end};
 
 /// The lines of a schedule are read as its setup and its events, in order.
 pub fn what_is_printed_is_read()
