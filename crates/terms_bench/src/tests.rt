@@ -45,14 +45,17 @@ fn texts(rt: HostRuntime) -> Result<(), Fail> {
         ("v 01 r a 0", "word 2: number"),
     ] {
         let found = read_payload(alloc, text.as_bytes(), 1).err();
-        assert_eq!(rt; format!(in alloc; "{}", found.ok_or("a fault")?)?, fault);
+        assert_eq!(rt;
+            format!(in alloc; "{}", found.ok_or("a fault")?)?.as_str(),
+            fault
+        );
     }
     let mut text = b"take ".to_vec(alloc)?;
     print_txn(TxId { home: 3, seq: 12 }, &mut text)?;
     print_number(u64::MAX, &mut text)?;
     let want = b"take 3.1218446744073709551615".as_slice();
     assert_eq!(rt; text.as_slice(), want);
-    assert_eq!(rt; format!(in alloc; "{}", Kind::Outcome)?, "OUTCOME");
+    assert_eq!(rt; format!(in alloc; "{}", Kind::Outcome)?.as_str(), "OUTCOME");
     Ok(())
 }
 
