@@ -1,0 +1,12 @@
+pub mod Acknowledging
+pub mod Answered
+pub mod Asking
+pub mod ByKey
+pub mod Closing
+pub mod FirstViews
+pub mod Followers
+pub mod HeardRules
+pub mod PartLaws
+pub mod Placing
+pub mod Slots
+pub mod ViewLaws

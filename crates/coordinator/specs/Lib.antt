@@ -1,0 +1,4 @@
+pub mod Acknowledged
+pub mod InOrder
+pub mod OpenCases
+pub mod State

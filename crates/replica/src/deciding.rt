@@ -1,0 +1,44 @@
+//! A member learns the decision of a transaction in its log.
+ghost use Rattle.std.specs.Prelude.{◌≡◌, [], ◌&&◌, nat_le, IfOk, OnOk};
+ghost use Rattle.protocol.specs.Log.{has_at};
+ghost use Rattle.protocol.specs.Records.{NodeRecord};
+ghost use Rattle.protocol.specs.ShardRules.{on_decision};
+ghost use Rattle.replica.specs.Replicas.{within};
+
+use crate::replicas::Replica;
+use crate::shard_logs::ShardLog;
+use answers::refusal;
+use std::alloc::Global;
+use std::mem;
+use tcs_laws::VoteGuard;
+use tcs_terms::{Epoch, Handled, OutOfMemory, Slot, TxId};
+
+impl<G: VoteGuard> Replica<G> {
+    /// Whether the node reached this epoch, and the slot has the transaction.
+    fn may_mark(&self, epoch: Epoch, slot: Slot, txn: TxId) -> bool
+        ensures { let s = self.now in result ≡ (nat_le epoch s.state && has_at s.rows slot txn) }
+    {
+        epoch <= self.state && self.log.has_at(slot, txn)
+    }
+
+    /// DECISION: the row of that slot and transaction is marked, in this epoch or a later one. Nothing is sent.
+    pub fn decide(
+        &mut self,
+        alloc: Global,
+        epoch: Epoch,
+        slot: Slot,
+        txn: TxId,
+        commit: bool,
+    ) -> Result<Handled, OutOfMemory>
+        ensures answer { (node : NodeRecord) → IfOk result (λ h. h ≡ (on_decision (within node self.old) epoch slot txn commit).answer) }
+        ensures kept { (node : NodeRecord) → OnOk result (within node self.new ≡ (on_decision (within node self.old) epoch slot txn commit).kept) }
+        ensures sends { (node : NodeRecord) → OnOk result ((on_decision (within node self.old) epoch slot txn commit).sends ≡ []) }
+    {
+        if !self.may_mark(epoch, slot, txn) {
+            return Ok(refusal(epoch, self.state));
+        }
+        let log = mem::replace(&mut self.log, ShardLog::new(alloc));
+        self.log = log.decided(alloc, slot, txn, commit)?;
+        Ok(Handled::Acted)
+    }
+}
