@@ -5,3 +5,11 @@ pub mod Runs
 pub mod Limits
 pub mod Rising
 pub mod Told
+pub mod Promises
+pub mod Growth
+pub mod Ranges
+pub mod Refusals
+pub mod EpochsBelow
+pub mod Losses
+pub mod Addresses
+pub mod NamedShards
