@@ -1,5 +1,5 @@
 -- Answers to PREPARE and to ACCEPT, by whether they act.
-use Rattle.std.proofs.Common.{◌≡◌, ℕ, true, false, length, [], Option, Some, None, refl, sym, ◌∙◌, ap, eqb-true}
+use Rattle.std.proofs.Common.{◌≡◌, ℕ, true, false, length, [], Option, Some, sym, ◌∙◌, ap, eqb-true}
 use Rattle.std.specs.Prelude.{◌==◌}
 use Rattle.tcs_terms.specs.declared.ids.TxId.{TxId}
 use Rattle.tcs_terms.specs.Places.{Membership}

@@ -1,5 +1,5 @@
 -- What becomes of a case that went on, by whether it is complete.
-use Rattle.std.proofs.Common.{◌≡◌, Bool, true, false, List, [], ◌++◌, refl, sym, append-nil}
+use Rattle.std.proofs.Common.{◌≡◌, Bool, true, false, List, ◌++◌, refl, sym, append-nil}
 use Rattle.tcs_terms.specs.declared.ids.TxId.{TxId}
 use Rattle.tcs_terms.specs.declared.inputs.Handled.TheVariants.{Acted}
 use Rattle.tcs_terms.specs.declared.messages.Outgoing.{Outgoing}

@@ -1,6 +1,5 @@
 -- The rules about answers, for the case that the transaction has.
 use Rattle.std.proofs.Common.{◌≡◌, ℕ, true, false, [], Option, Some, None, refl, sym, ◌∙◌, ap, subst}
-use Rattle.std.specs.Prelude.{option_and_then}
 use Rattle.tcs_terms.specs.declared.ids.TxId.{TxId}
 use Rattle.tcs_terms.specs.Preparations.{Preparation}
 use Rattle.protocol.specs.Outcomes.{refuses}

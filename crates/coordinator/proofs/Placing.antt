@@ -7,16 +7,15 @@ use Rattle.tcs_terms.specs.declared.inputs.Handled.TheVariants.{Acted}
 use Rattle.tcs_terms.specs.Logs.{same_txn}
 use Rattle.tcs_terms.specs.Places.{Membership}
 use Rattle.tcs_terms.specs.Preparations.{Preparation}
-use Rattle.protocol.specs.Outcomes.{refuses}
-use Rattle.protocol.specs.Records.{Case, Coordinator}
-use Rattle.protocol.specs.Views.{view_of, view_epoch}
+use Rattle.protocol.specs.Records.{Case}
+use Rattle.protocol.specs.Views.{view_of}
 use Rattle.protocol.specs.Cases.{part_of, is_complete}
-use Rattle.protocol.specs.Coordination.{case_of, with_case, without_case, check_decision, on_prepare_ack, on_accept_ack}
+use Rattle.protocol.specs.Coordination.{case_of, with_case, without_case, on_prepare_ack, on_accept_ack}
 use Rattle.coordinator.specs.Acknowledged.{having, both_pass, takes_vote, takes_ack, voted_case, acknowledged_case, send_one, told, noted}
 use Rattle.coordinator.specs.OpenCases.{taken, txn_at, IsPlaced}
 use Rattle.coordinator.proofs.Closing.{checked}
-use Rattle.coordinator.proofs.HeardRules.{vote_of_none, vote_rests, vote_goes_on, ack_of_none, ack_rests, ack_goes_on}
-use Rattle.coordinator.proofs.Slots.{StandsAt, stands_at, not_found, placed_put, placed_clear, closed_at}
+use Rattle.coordinator.proofs.HeardRules.{vote_goes_on, ack_goes_on}
+use Rattle.coordinator.proofs.Slots.{stands_at, not_found, placed_put, placed_clear, closed_at}
 
 key_is : {X : Type 0} (o : Option (TxId × X)) (t u : TxId) (x y : X) → o ≡ Some (t, x) → o ≡ Some (u, y) → t ≡ u
 key_is {X} None t u x y e f = absurd cc

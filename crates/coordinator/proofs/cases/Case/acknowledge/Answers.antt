@@ -1,7 +1,6 @@
 use Rattle.std.proofs.Common.{◌≡◌, Some, None, sym, ◌∙◌, ap}
-use Rattle.protocol.specs.Records.{Part, Case}
 use Rattle.protocol.specs.Coordination.{acknowledged}
-use Rattle.coordinator.specs.Acknowledged.{acknowledged_case, change_part}
+use Rattle.coordinator.specs.Acknowledged.{acknowledged_case}
 use Rattle.coordinator.specs.InOrder.{part_place}
 use Rattle.coordinator.proofs.PartLaws.{changed, unchanged}
 use Rattle.coordinator.specs.contracts.cases.Case.{the_view}

@@ -1,4 +1,4 @@
-use Rattle.std.proofs.Common.{◌≡◌, true, ◌++◌, sym, ◌∙◌, ap}
+use Rattle.std.proofs.Common.{◌≡◌, true, sym, ◌∙◌, ap}
 use Rattle.protocol.specs.Choices.{when}
 use Rattle.protocol.specs.Coordination.{is_newer, on_config, ask_leader}
 use Rattle.coordinator.specs.State.{CoordinatorState}

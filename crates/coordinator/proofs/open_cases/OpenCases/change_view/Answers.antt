@@ -1,5 +1,5 @@
 -- One place after the other asks the new leader; each keeps its transaction.
-use Rattle.std.proofs.Common.{◌≡◌, ◌+◌, ◌<◌, ◌≤◌, List, ◌++◌, length, map, filter, get_or, take, Option, Some, refl, sym, ◌∙◌, ap, arith, append_assoc}
+use Rattle.std.proofs.Common.{◌≡◌, ◌<◌, ◌≤◌, List, ◌++◌, length, map, filter, get_or, take, Option, Some, sym, ◌∙◌, ap, arith, append_assoc}
 use Rattle.std.specs.Prelude.{flat_map}
 use Rattle.std.proofs.Math.ListN.{set}
 use Rattle.std.proofs.lemmas.List.{take_all}
@@ -28,13 +28,13 @@ loop-at-preserved c =
     let here : old ≡ get_or slots c.loop-at.at old =
     c.index_mut.ensures.value ∙ ap (λ xs. get_or xs c.loop-at.at old) c.loop-at.invariant.0 ∙ next_unchanged f c.loop-at.at slots old in (
       ap (λ xs. set xs c.loop-at.at c.change_one.new.slot) c.loop-at.invariant.0
-      ∙ changed_one_more f c.loop-at.at slots old c.change_one.new.slot within (c.in_ok-change_one.ensures.case ∙ ap f here),
+          ∙ changed_one_more f c.loop-at.at slots old c.change_one.new.slot within (c.in_ok-change_one.ensures.case ∙ ap f here),
       c.loop-at.invariant.1,
       c.in_ok-change_one.ensures.sends
-      ∙ ap (λ (ys : List Outgoing). ys ++ sends old) c.loop-at.invariant.2
-      ∙ append_assoc before (flat_map sends (take c.loop-at.at slots)) (sends old)
-      ∙ ap (λ (ys : List Outgoing). before ++ ys)
-      (ap (λ (o : Option (TxId × Case)). flat_map sends (take c.loop-at.at slots) ++ sends o) here ∙ sym (flat_one_more sends c.loop-at.at slots old within)),
+          ∙ ap (λ (ys : List Outgoing). ys ++ sends old) c.loop-at.invariant.2
+          ∙ append_assoc before (flat_map sends (take c.loop-at.at slots)) (sends old)
+          ∙ ap (λ (ys : List Outgoing). before ++ ys)
+          (ap (λ (o : Option (TxId × Case)). flat_map sends (take c.loop-at.at slots) ++ sends o) here ∙ sym (flat_one_more sends c.loop-at.at slots old within)),
     )
 
 pub invariant_of-self-in_err-change_one : goal.invariant_of-self-in_err-change_one

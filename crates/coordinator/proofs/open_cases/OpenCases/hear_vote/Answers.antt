@@ -1,17 +1,13 @@
-use Rattle.std.proofs.Common.{◌≡◌, ◌+◌, ◌<◌, true, false, None, Some, [], ◌++◌, length, refl, sym, ◌∙◌, ap, arith, append-nil, append_assoc}
-use Rattle.std.specs.Prelude.{is_some}
+use Rattle.std.proofs.Common.{◌≡◌, ◌+◌, None, Some, length, refl, sym, ◌∙◌, ap, arith, append-nil, append_assoc}
 use Rattle.std.specs.Map.{lookup}
 use Rattle.tcs_terms.specs.Logs.{same_txn}
 use Rattle.tcs_terms.specs.Preparations.{Preparation}
-use Rattle.protocol.specs.Cases.{part_of, is_complete}
+use Rattle.protocol.specs.Cases.{is_complete}
 use Rattle.protocol.specs.Coordination.{with_case}
-use Rattle.protocol.specs.Outcomes.{refusal}
-use Rattle.protocol.specs.Records.{Case}
-use Rattle.protocol.specs.Views.{view_epoch}
-use Rattle.coordinator.specs.Acknowledged.{having, voted_case, acknowledged_case, send_one, told, noted}
+use Rattle.coordinator.specs.Acknowledged.{having, voted_case}
 use Rattle.coordinator.specs.OpenCases.{taken}
-use Rattle.coordinator.proofs.HeardRules.{vote_of_none, vote_rests, ack_of_none, ack_rests}
-use Rattle.coordinator.proofs.Placing.{no_case, reads, reads_none, still_placed, less_placed, put_case, same_case, close_case, accepts, votes}
+use Rattle.coordinator.proofs.HeardRules.{vote_of_none, vote_rests}
+use Rattle.coordinator.proofs.Placing.{no_case, reads, reads_none, still_placed, less_placed, put_case, same_case, close_case, votes}
 use Rattle.coordinator.proofs.Slots.{stands_at}
 use Rattle.coordinator.proofs.open_cases.OpenCases.hear_vote.Goals as goal
 

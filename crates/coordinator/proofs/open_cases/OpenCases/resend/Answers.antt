@@ -1,4 +1,4 @@
-use Rattle.std.proofs.Common.{◌≡◌, ◌≤◌, List, ◌++◌, length, Option, ◌∙◌, ap, arith}
+use Rattle.std.proofs.Common.{◌≤◌, List, ◌++◌, length, Option, ◌∙◌, ap, arith}
 use Rattle.std.specs.Prelude.{flat_map}
 use Rattle.std.proofs.lemmas.List.{take_all}
 use Rattle.tcs_terms.specs.declared.ids.TxId.{TxId}
