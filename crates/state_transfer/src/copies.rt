@@ -15,6 +15,16 @@ pub fn push_copies(alloc: Global, rows: &[Row], copies: &mut Vec<Row>) -> Result
     Ok(())
 }
 
+/// The list of rows.
+pub fn into_list(alloc: Global, rows: Rows) -> Result<Vec<Row>, OutOfMemory>
+    ensures list { IfOk result (λ list. list.items ≡ rows) }
+    ensures rows { AreRows rows }
+{
+    let mut copies = Vec::new(alloc);
+    push_copies(alloc, rows.list(), &mut copies)?;
+    Ok(copies)
+}
+
 /// A log's rows as a message holds them.
 pub fn copied(alloc: Global, rows: &[Row]) -> Result<Rows, OutOfMemory>
     requires { AreRows rows.now }
