@@ -6,7 +6,9 @@ use cert_serial::Serial;
 use std::alloc::Global;
 use std::test::Fail;
 use tcs_laws::ScanGuard;
-use tcs_terms::{Config, Epoch, Mark, Name, Payload, ReadPart, ShardSet, TxId, Value, Vote, WritePart};
+use tcs_terms::{
+    Config, Epoch, Mark, Name, Payload, ReadPart, ShardSet, TxId, Value, Vote, WritePart,
+};
 
 type SerialLeader = Leader<ScanGuard<Serial>>;
 
@@ -23,11 +25,12 @@ fn a_leader_goes_on_with_its_rows(rt: HostRuntime) -> Result<(), Fail> {
     assert_eq!(rt; (fenced.state(), fenced.promised()), (1, 2));
     let mut leader = lead(fenced, config(alloc, 2)?);
     assert_eq!(rt; leader.config().epoch(), 2);
-    for (seq, want) in [
-        (2, (2, Vote::Clash(txn(1)))),
-        (3, (3, Vote::Commit)),
-    ] {
-        assert_eq!(rt; vote(alloc, &mut leader, seq)?, want, "of transaction {seq}");
+    for (seq, want) in [(2, (2, Vote::Clash(txn(1)))), (3, (3, Vote::Commit))] {
+        assert_eq!(rt;
+            vote(alloc, &mut leader, seq)?,
+            want,
+            "of transaction {seq}"
+        );
     }
     assert!(rt; matches!(leader.log().at(1), Some(row) if row.mark == Mark::Aborted));
     Ok(())
