@@ -15,7 +15,7 @@ pub record DutyState : Type 0 where
   pub rows : List Row
 
 -- what a role tells of these: the epoch of a leader's or follower's configuration is its state epoch and its promise
-abbrev pub duty_of : {G : Type 0} → Role G → DutyState
+abbrev pub duty_of : {G R : Type 0} → Role G R → DutyState
 duty_of (Fenced f) = record { role = records.Role.Fenced; state = f.state; promised = f.promised; rows = f.rows }
 duty_of (Leader l) = record { role = records.Role.Leader l.config; state = l.config.epoch; promised = l.config.epoch; rows = l.rows }
 duty_of (Follower f) = record { role = records.Role.Follower f.config; state = f.config.epoch; promised = f.config.epoch; rows = f.rows }

@@ -51,7 +51,7 @@ impl<G: VoteGuard> Duty<G> {
         name: NodeId,
         config: Option<&Config>,
     ) -> Result<Duty<G>, OutOfMemory>
-        requires { IsTrue (is_first (option_copied config.entry)) }
+        requires { IsTrue (is_first (option_copied config)) }
         ensures { IfOk result (λ duty. duty ≡ begins_as (first_role name (option_copied config.entry))) }
     {
         Ok(Duty {

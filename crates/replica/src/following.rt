@@ -1,7 +1,7 @@
 //! A node becomes follower of a configuration, with its leader's rows.
 ghost use Rattle.std.specs.Prelude.{◌≡◌, ◌&&◌, ◌==◌, ◌≤◌, None, IsTrue, IsErr, IfOk, OnOk};
 ghost use Rattle.std.specs.Result.{is_err};
-ghost use Rattle.protocol.specs.Pieces.{into_list, takes_piece};
+ghost use Rattle.protocol.specs.Pieces.{takes_piece};
 ghost use Rattle.protocol.specs.Records.{NodeRecord};
 ghost use Rattle.protocol.specs.ShardRules.{gathers, on_new_state, on_state_piece};
 ghost use Rattle.state_transfer.specs.Arriving.{kept_as};

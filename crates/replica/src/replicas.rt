@@ -56,7 +56,7 @@ impl<G: VoteGuard> Replica<G> {
         shard: ShardId,
         config: Option<&Config>,
     ) -> Result<Replica<G>, OutOfMemory>
-        requires { IsTrue (is_first (option_copied config.entry)) }
+        requires { IsTrue (is_first (option_copied config)) }
         ensures node { (configs : List Membership) → IfOk result (λ r.
             let node = first_node_as configs name shard (first_role name (option_copied config.entry)) in within node r ≡ node) }
         ensures spent { IfOk result (λ r. r.spent ≡ false) }

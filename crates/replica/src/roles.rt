@@ -51,7 +51,7 @@ impl<G: VoteGuard> Role<G> {
         name: NodeId,
         config: Option<&Config>,
     ) -> Result<Role<G>, OutOfMemory>
-        requires { IsTrue (is_first (option_copied config.entry)) }
+        requires { IsTrue (is_first (option_copied config)) }
         ensures { IfOk result (λ role. duty_of role ≡ begins_as (first_role name (option_copied config.entry))) }
     {
         match config {
