@@ -1,5 +1,5 @@
 -- Every step of a node is one of the effects: the rule table read backwards.
-use Rattle.std.proofs.Common.{ℕ}
+use Rattle.std.proofs.Common.{ℕ, refl}
 use Rattle.tcs_terms.specs.declared.inputs.Handled.TheVariants.{Acted, Held}
 use Rattle.tcs_terms.specs.declared.inputs.Input.{Input}
 use Rattle.tcs_terms.specs.declared.inputs.Input.TheVariants as inputs
@@ -9,6 +9,7 @@ use Rattle.tcs_laws.specs.Certification.{Tests}
 use Rattle.protocol.specs.Records.{NodeRecord}
 use Rattle.protocol.specs.Table.{receive, step}
 use Rattle.protocol_laws.specs.Effect.{Effect}
+use Rattle.protocol_laws.specs.Effect.IsMark.{NoMark}
 use Rattle.protocol_laws.proofs.EffectsOfClients.{certify_effect, take_effect, nudge_effect, move_effect, lower_effect, read_effect, ask_effect}
 use Rattle.protocol_laws.proofs.EffectsOfCoordination.{prepare_ack_effect, accept_ack_effect, config_change_effect, outcome_effect}
 use Rattle.protocol_laws.proofs.EffectsOfProbing.{probe_ack_effect}
@@ -29,12 +30,12 @@ receive_effect tests version node from (ProbeAck epoch state) = probe_ack_effect
 receive_effect tests version node from (NewConfig config) = new_config_effect tests version node from config
 receive_effect tests version node from (NewState config rows) = new_state_effect tests version node from config rows
 receive_effect tests version node from (ConfigChange config) = config_change_effect tests version node from config
-receive_effect tests version node from (Last shard) = rests_noticed tests version node from 11 (Last shard) (Held 0)
-receive_effect tests version node from (At shard epoch) = rests_noticed tests version node from 12 (At shard epoch) (Held 0)
-receive_effect tests version node from (Cas config) = rests_noticed tests version node from 13 (Cas config) (Held 0)
+receive_effect tests version node from (Last shard) = rests_noticed tests version node from 11 (Last shard) (Held 0) NoMark (record { answered = refl; kind = refl })
+receive_effect tests version node from (At shard epoch) = rests_noticed tests version node from 12 (At shard epoch) (Held 0) NoMark (record { answered = refl; kind = refl })
+receive_effect tests version node from (Cas config) = rests_noticed tests version node from 13 (Cas config) (Held 0) NoMark (record { answered = refl; kind = refl })
 receive_effect tests version node from (Stored config) = stored_effect tests version node from config
 receive_effect tests version node from (OutcomeOf txn decision) = outcome_effect tests version node from txn decision
-receive_effect tests version node from (Refused kind why mark) = rests_quietly tests version node (inputs.Deliver from (Refused kind why mark)) Acted
+receive_effect tests version node from (Refused kind why mark) = rests_quietly tests version node (inputs.Deliver from (Refused kind why mark)) Acted tt refl
 receive_effect tests version node from (StatePiece config number pieces rows) = state_piece_effect tests version node from config number pieces rows
 
 pub effect_of : (tests : Tests) (version : ℕ) (node : NodeRecord) (input : Input) → Effect tests version node input (step tests version node input)

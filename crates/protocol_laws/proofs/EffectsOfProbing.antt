@@ -7,12 +7,12 @@ use Rattle.tcs_terms.specs.Places.{Membership, is_among}
 use Rattle.tcs_laws.specs.Certification.{Tests}
 use Rattle.protocol.specs.ClientRules.{probes}
 use Rattle.protocol.specs.Coordination.{add_once}
-use Rattle.protocol.specs.Outcomes.{Out, acts, refusal}
+use Rattle.protocol.specs.Outcomes.{Out, acts}
 use Rattle.protocol.specs.Probing.{on_probe_ack}
 use Rattle.protocol.specs.Records.{Stage, NodeRecord}
 use Rattle.protocol.specs.Records.Stage.{Idle, AskedLast, Probing, AskedLower, CasSent}
-use Rattle.protocol_laws.specs.Effect.{Effect, with_stage, Chooses, FindsLow}
-use Rattle.protocol_laws.proofs.Guards.{by_guard, Receives, no_notice, prober_rests_noticed}
+use Rattle.protocol_laws.specs.Effect.{NoMark, Effect, with_stage, Chooses, FindsLow}
+use Rattle.protocol_laws.proofs.Guards.{by_guard, Receives, no_notice, prober_refuses, stage-mark}
 
 -- while probing, the answer is of the wanted epoch
 probing_effect : (tests : Tests) (version : ℕ) (node : NodeRecord) (from epoch state shard : ℕ) (want : List ℕ) (wanted : ℕ) (probed : Membership) (low : List ℕ)
@@ -31,7 +31,7 @@ probing_effect tests version node from epoch state shard want wanted probed low 
     (λ lt. no_notice E from 7 node.promised _ _ _
     (subst (λ n. E (acts (with_stage node (Probing shard want n probed (add_once low from))) [])) (sym same)
     (FindsLow from state shard want epoch probed low here p.1 (leb-false probed.epoch state lt)))))
-    (λ e. prober_rests_noticed tests version node from 7 (ProbeAck epoch state) (refusal epoch wanted) (Probing shard want wanted probed low) at)
+    (λ e. prober_refuses tests version node from 7 (ProbeAck epoch state) epoch wanted (Probing shard want wanted probed low) at (stage-mark node (Probing shard want wanted probed low) at) (record { answered = refl; kind = refl }))
 
 pub probe_ack_effect : (tests : Tests) (version : ℕ) (node : NodeRecord) (from epoch state : ℕ)
     → Receives tests version node from 7 (ProbeAck epoch state) (probes node (on_probe_ack node.name node.prober from epoch state))
@@ -39,9 +39,9 @@ unfolding on_probe_ack
 probe_ack_effect tests version node from epoch state = go node.prober refl
   where
     go : (stage : Stage) → node.prober ≡ stage → Receives tests version node from 7 (ProbeAck epoch state) (probes node (on_probe_ack node.name stage from epoch state))
-    go Idle e = prober_rests_noticed tests version node from 7 (ProbeAck epoch state) (refusal epoch 0) Idle e
-    go (AskedLast shard want) e = prober_rests_noticed tests version node from 7 (ProbeAck epoch state) (refusal epoch 0) (AskedLast shard want) e
+    go Idle e = prober_refuses tests version node from 7 (ProbeAck epoch state) epoch 0 Idle e NoMark (record { answered = refl; kind = refl })
+    go (AskedLast shard want) e = prober_refuses tests version node from 7 (ProbeAck epoch state) epoch 0 (AskedLast shard want) e NoMark (record { answered = refl; kind = refl })
     go (Probing shard want wanted probed low) e = probing_effect tests version node from epoch state shard want wanted probed low e
     go (AskedLower shard want wanted asked) e =
-        prober_rests_noticed tests version node from 7 (ProbeAck epoch state) (refusal epoch wanted) (AskedLower shard want wanted asked) e
-    go (CasSent config) e = prober_rests_noticed tests version node from 7 (ProbeAck epoch state) (refusal epoch config.epoch) (CasSent config) e
+        prober_refuses tests version node from 7 (ProbeAck epoch state) epoch wanted (AskedLower shard want wanted asked) e (stage-mark node (AskedLower shard want wanted asked) e) (record { answered = refl; kind = refl })
+    go (CasSent config) e = prober_refuses tests version node from 7 (ProbeAck epoch state) epoch config.epoch (CasSent config) e (stage-mark node (CasSent config) e) (record { answered = refl; kind = refl })

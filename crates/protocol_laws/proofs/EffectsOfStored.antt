@@ -1,5 +1,5 @@
 -- What a node does with a stored configuration, read backwards: as coordinator and as prober.
-use Rattle.std.proofs.Common.{◌≡◌, ℕ, true, ◌&&◌, ◌||◌, ◌==◌, eqb-true, leb-true, ltb-true, nat_le, nat_lt}
+use Rattle.std.proofs.Common.{◌≡◌, ℕ, true, ◌&&◌, ◌||◌, ◌==◌, eqb-true, leb-true, ltb-true, nat_le, nat_lt, refl}
 use Rattle.std.proofs.lemmas.Bool.{and_parts}
 use Rattle.tcs_terms.specs.declared.limits.TheConstants.{MAX_EPOCH}
 use Rattle.tcs_terms.specs.declared.inputs.Input.TheVariants as inputs
@@ -13,8 +13,8 @@ use Rattle.protocol.specs.Records.{Coordinator, Stage, NodeRecord}
 use Rattle.protocol.specs.Records.Stage.{Idle, AskedLast, Probing, AskedLower, CasSent}
 use Rattle.protocol.specs.Table.{is_awaited, next_stage, on_stored_config}
 use Rattle.protocol.specs.Views.{view_epoch}
-use Rattle.protocol_laws.specs.Effect.{Effect, Sees, Replaces, Keeps as KeepsView, Hears, Waits, ProbesLast, ProbesLower, IsDone, Learns}
-use Rattle.protocol_laws.proofs.Guards.{by_guard, rests_quietly}
+use Rattle.protocol_laws.specs.Effect.{IsMark, Viewed, Effect, Sees, Replaces, Keeps as KeepsView, Hears, Waits, ProbesLast, ProbesLower, IsDone, Learns}
+use Rattle.protocol_laws.proofs.Guards.{by_guard, refusal-tells, rests_quietly}
 
 on_config-Sees : (c : Coordinator) (config : Membership) → Sees c config (on_config c config).kept (on_config c config).sends
 unfolding on_config
@@ -48,4 +48,5 @@ unfolding on_stored_config
 stored_effect tests version node from config =
     by_guard (Effect tests version node (inputs.Deliver from (Stored config))) (is_awaited node config || is_newer node.coordinator config)
     (λ e. Learns from config _ _ _ _ (on_config-Sees node.coordinator config) (next_stage-Hears node config))
-    (λ e. rests_quietly tests version node (inputs.Deliver from (Stored config)) (refusal config.epoch (view_epoch node.coordinator.views config.shard)))
+    (λ e. rests_quietly tests version node (inputs.Deliver from (Stored config)) (refusal config.epoch (view_epoch node.coordinator.views config.shard))
+    (refusal-tells (IsMark node) config.epoch (view_epoch node.coordinator.views config.shard) (Viewed config.shard)) refl)

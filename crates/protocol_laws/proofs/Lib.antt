@@ -22,6 +22,7 @@ pub mod ConfigurationsSame
 pub mod ConfigurationsStored
 pub mod ConfigurationsWanted
 pub mod CopyAfter
+pub mod CopyBefore
 pub mod CopyFits
 pub mod CopyLaws
 pub mod CopyTells
@@ -48,6 +49,7 @@ pub mod EntriesCasesKept
 pub mod EntriesKept
 pub mod EntriesListed
 pub mod EntriesListsKept
+pub mod Exchanges
 pub mod LogRows
 pub mod FoundInRun
 pub mod Fronts
@@ -71,6 +73,7 @@ pub mod OneEntry
 pub mod OneNote
 pub mod OnwardOf
 pub mod OrderOf
+pub mod OrderOn
 pub mod Orders
 pub mod PartsOf
 pub mod PastKept
@@ -80,6 +83,7 @@ pub mod ProbeAnswersKept
 pub mod ProbeAnswersSent
 pub mod PromisesKept
 pub mod PromisesNode
+pub mod PromisesOfRun
 pub mod PromisesOrder
 pub mod PromisesPieces
 pub mod PromisesRows
@@ -89,6 +93,7 @@ pub mod Readings
 pub mod ReadingsLast
 pub mod RunInduction
 pub mod RunMoments
+pub mod RunsOn
 pub mod SameTxn
 pub mod Sends
 pub mod ServesOf
@@ -122,3 +127,23 @@ pub mod ViewsStored
 pub mod VotesSay
 pub mod WithPast
 pub mod WritersRise
+pub mod AllOf
+pub mod Proposals
+pub mod RangesStage
+pub mod RangesCases
+pub mod RangesRows
+pub mod RangesKept
+pub mod RangesSends
+pub mod RangesRefused
+pub mod RangesSent
+pub mod Sendable
+pub mod RangesService
+pub mod RangesWorld
+pub mod RangesStart
+pub mod RangesRun
+pub mod RefusedInputs
+pub mod StoredBelow
+pub mod LossesOf
+pub mod AmongNodes
+pub mod ShardNaming
+pub mod EmptyParts

@@ -15,11 +15,18 @@ use Rattle.protocol_laws.specs.Change.{Change, Passes, Stops, Acts, AtService}
 use Rattle.protocol_laws.specs.Limits.{IsWhole, LimitHolds}
 
 -- the messages after an event are those before and those that it sends
-messages_grow : (tests : Tests) (version : ℕ) (w : World) (event : Event) (h : Happening) → Change tests version w event h → h.after.messages ≡ w.messages ++ h.sent
+pub messages_grow : (tests : Tests) (version : ℕ) (w : World) (event : Event) (h : Happening) → Change tests version w event h → h.after.messages ≡ w.messages ++ h.sent
 messages_grow tests version w event h (Passes e result q) = sym (append-nil w.messages)
 messages_grow tests version w event h (Stops name) = sym (append-nil w.messages)
 messages_grow tests version w event h (Acts e name node input out c n s m k x) = refl
 messages_grow tests version w event h (AtService number from message sent out e m s x) = refl
+
+-- the history after an event is that before, and what the event notes
+pub history_grows : (tests : Tests) (version : ℕ) (w : World) (event : Event) (h : Happening) → Change tests version w event h → h.after.history ≡ w.history ++ h.notes
+history_grows tests version w event h (Passes e result q) = sym (append-nil w.history)
+history_grows tests version w event h (Stops name) = sym (append-nil w.history)
+history_grows tests version w event h (Acts e name node input out c n s m k x) = refl
+history_grows tests version w event h (AtService number from message sent out e m s x) = refl
 
 bytes_grow : (tests : Tests) (version : ℕ) (w : World) (event : Event)
     → frame_bytes (world_step tests version w event).after.messages ≡ frame_bytes w.messages + frame_bytes (world_step tests version w event).sent
@@ -34,7 +41,7 @@ after_on tests version w [] event = refl
 after_on tests version w (e ∷ es) event = after_on tests version (world_step tests version w e).after es event
 
 -- a run with one more event
-run_on : (tests : Tests) (setup : Deployment) (events : List Event) (event : Event)
+pub run_on : (tests : Tests) (setup : Deployment) (events : List Event) (event : Event)
     → run tests setup (events ++ event ∷ []) ≡ (world_step tests setup.version (run tests setup events) event).after
 unfolding run
 run_on tests setup events event = after_on tests setup.version (first_world setup) events event

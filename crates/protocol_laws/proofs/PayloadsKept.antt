@@ -7,6 +7,7 @@ use Rattle.tcs_terms.specs.declared.inputs.Input.{Input}
 use Rattle.tcs_terms.specs.declared.inputs.Input.TheVariants as inputs
 use Rattle.tcs_terms.specs.declared.inputs.Note.TheVariants.{Begin}
 use Rattle.tcs_terms.specs.Payloads.{Accesses, IsPayload}
+use Rattle.tcs_terms.specs.Runs.{IsEvent}
 use Rattle.tcs_laws.specs.Certification.{Tests}
 use Rattle.protocol.specs.Invariant.Time.{StandsIn}
 use Rattle.protocol.specs.Outcomes.{Out}
@@ -15,7 +16,6 @@ use Rattle.protocol.specs.World.{World, Happening}
 use Rattle.protocol.proofs.Lists.{StandsIn-append}
 use Rattle.protocol_laws.specs.Change.{Change, Passes, Stops, Acts, AtService, Comes, ByCall, ByMessage}
 use Rattle.protocol_laws.specs.Effect.{Effect, Rests, Certifies, TakesOver, Reads, Votes, Acknowledges}
-use Rattle.protocol_laws.specs.Runs.{EventStands}
 use Rattle.protocol_laws.proofs.HistoryKept.{ArePayloads}
 use Rattle.protocol_laws.proofs.TransactionsNotes.{goes_on-begins}
 use Rattle.protocol_laws.proofs.ServiceSays.{serves_no_notes}
@@ -34,7 +34,7 @@ came : (w : World) (name : ℕ) (event : Event) (input : Input) (whole : Accesse
 came w name e i whole (ByCall input) h = ap (λ x. Call name x) (sym h)
 came w name e i whole (ByMessage number from message sent is found s) h = absurd (cc h)
 
-pub payloads_kept : (tests : Tests) (version : ℕ) (w : World) (event : Event) (h : Happening) → Change tests version w event h → EventStands event → ArePayloads w.history → ArePayloads h.after.history
+pub payloads_kept : (tests : Tests) (version : ℕ) (w : World) (event : Event) (h : Happening) → Change tests version w event h → IsEvent event → ArePayloads w.history → ArePayloads h.after.history
 payloads_kept tests version w e h (Passes event result a) formed p = p
 payloads_kept tests version w e h (Stops name) formed p = p
 payloads_kept tests version w e h (Acts event name node input out comes found s named up effect) formed p = go
@@ -42,7 +42,7 @@ payloads_kept tests version w e h (Acts event name node input out comes found s 
     go : (txn : TxId) (whole : Accesses) → StandsIn (Begin txn whole) (w.history ++ out.notes) → IsPayload whole
     go txn whole s = elim (StandsIn-append w.history out.notes (Begin txn whole) s) [
       | inl old ↦ p txn whole old
-      | inr new ↦ subst EventStands (came w name event input whole comes (effect-begins tests version node input out txn whole effect new)) formed
+      | inr new ↦ subst IsEvent (came w name event input whole comes (effect-begins tests version node input out txn whole effect new)) formed
     ]
 payloads_kept tests version w e h (AtService number from message sent out is found s serves) formed p = λ txn whole s.
     p txn whole (subst (λ ns. StandsIn (Begin txn whole) ns) (ap (λ ns. w.history ++ ns) (serves_no_notes (length w.nodes) w.configs from message out serves) ∙ append-nil w.history) s)

@@ -1,12 +1,17 @@
 -- What a node sends, list by list: what holds of each message that a list is made of holds of every message in it.
-use Rattle.std.proofs.Common.{◌≡◌, ℕ, Bool, true, false, not, ◌==◌, List, [], ◌∷◌, ◌++◌, map, flat_map, filter, length, Option, Some, None, option_and_then, inl, inr, sym, subst, refl}
+use Rattle.std.proofs.Common.{◌≡◌, ℕ, Bool, true, false, cond, not, ◌==◌, List, [], ◌∷◌, ◌++◌, map, flat_map, filter, length, Option, Some, None, option_and_then, inl, inr, sym, subst, refl}
 use Rattle.std.specs.List.{range_with_len}
 use Rattle.tcs_terms.specs.declared.ids.TxId.{TxId}
+use Rattle.tcs_terms.specs.declared.inputs.Handled.{Handled}
+use Rattle.tcs_terms.specs.declared.inputs.Handled.TheVariants.{Acted, Stale, Held, Full}
+use Rattle.tcs_terms.specs.declared.inputs.Input.{Input}
+use Rattle.tcs_terms.specs.declared.inputs.Input.TheVariants as inputs
 use Rattle.tcs_terms.specs.declared.inputs.Note.TheVariants as notes
 use Rattle.tcs_terms.specs.declared.logs.Row.{Row}
 use Rattle.tcs_terms.specs.declared.messages.Message.TheVariants.{Prepare, Accept, DecisionFor, Probe, NewConfig, NewState, Last, At, Cas, OutcomeOf, Refused, StatePiece}
 use Rattle.tcs_terms.specs.declared.messages.Outgoing.{Outgoing}
 use Rattle.tcs_terms.specs.declared.messages.Why.{Why}
+use Rattle.tcs_terms.specs.declared.messages.Why.TheVariants as why
 use Rattle.tcs_terms.specs.declared.votes.Decision.{Decision}
 use Rattle.tcs_terms.specs.Places.{Membership, is_among}
 use Rattle.tcs_terms.specs.Preparations.{Preparation}
@@ -14,6 +19,7 @@ use Rattle.tcs_terms.specs.Shards.{restricted}
 use Rattle.protocol.specs.Cases.{prepare, accept, send_part, send_case, is_complete, decision_of, tell_members, tell_decision, commits}
 use Rattle.protocol.specs.Choices.{when}
 use Rattle.protocol.specs.Coordination.{resend, ask_leader, has_part}
+use Rattle.protocol.specs.Notices.{notice_of}
 use Rattle.protocol.specs.Outcomes.{Out, to}
 use Rattle.protocol.specs.Pieces.{piece_count, piece_of}
 use Rattle.protocol.specs.Probing.{probe, ask_stage, tell_leader}
@@ -23,8 +29,8 @@ use Rattle.protocol.specs.ShardRules.{state_to}
 use Rattle.protocol.specs.Views.{view_of, followers}
 use Rattle.protocol.specs.Invariant.Time.{StandsIn}
 use Rattle.protocol.proofs.Lists.{StandsIn-append}
-use Rattle.protocol_laws.specs.Effect.{AreNotices, Sees, Hears, GoesOn}
-use Rattle.protocol_laws.specs.Effect.AreNotices.{Silent, Notice}
+use Rattle.wire_frame.specs.Spelling.{kind_of}
+use Rattle.protocol_laws.specs.Effect.{is_answered, notices_for, IsRefusal, Sees, Hears, GoesOn}
 use Rattle.protocol_laws.specs.Effect.Sees.{Replaces, Keeps}
 use Rattle.protocol_laws.specs.Effect.Hears.{Waits, ProbesLast, ProbesLower, IsDone}
 use Rattle.protocol_laws.specs.Effect.GoesOn.{Waiting, Decides}
@@ -43,19 +49,19 @@ each-one P one h o (inr s) = absurd s
 pub each-both : (P : Outgoing → Type 0) (xs ys : List Outgoing) → Each P xs → Each P ys → Each P (xs ++ ys)
 each-both P xs ys p q o s = elim (StandsIn-append xs ys o s) [ inl a ↦ p o a | inr b ↦ q o b ]
 
-each-map : {A : Type 0} (P : Outgoing → Type 0) (f : A → Outgoing) (xs : List A) → ((a : A) → StandsIn a xs → P (f a)) → Each P (map f xs)
+pub each-map : {A : Type 0} (P : Outgoing → Type 0) (f : A → Outgoing) (xs : List A) → ((a : A) → StandsIn a xs → P (f a)) → Each P (map f xs)
 each-map P f xs h o s = let m : IsMapped f xs o = map-StandsIn f xs o s in subst P (sym m.is) (h m.from m.there)
 
-each-flat_map : {A : Type 0} (P : Outgoing → Type 0) (f : A → List Outgoing) (xs : List A) → ((a : A) → StandsIn a xs → Each P (f a)) → Each P (flat_map f xs)
+pub each-flat_map : {A : Type 0} (P : Outgoing → Type 0) (f : A → List Outgoing) (xs : List A) → ((a : A) → StandsIn a xs → Each P (f a)) → Each P (flat_map f xs)
 each-flat_map P f xs h o s = let i : IsPiece f xs o = flat_map-StandsIn f xs o s in h i.source i.among o i.within
 
-each-when : (P : Outgoing → Type 0) (b : Bool) (xs ys : List Outgoing) → Each P xs → Each P ys → Each P (when b xs ys)
+pub each-when : (P : Outgoing → Type 0) (b : Bool) (xs ys : List Outgoing) → Each P xs → Each P ys → Each P (when b xs ys)
 unfolding when
 each-when P true xs ys p q = p
 each-when P false xs ys p q = q
 
 -- PREPARE of a case to the leader of a view
-each-prepare : (P : Outgoing → Type 0) (n : ℕ) (txn : TxId) (case : Case) (view : Option Membership)
+pub each-prepare : (P : Outgoing → Type 0) (n : ℕ) (txn : TxId) (case : Case) (view : Option Membership)
     → ((v : Membership) → view ≡ Some v → P (to v.leader (Prepare v.epoch txn case.shards (option_and_then (restricted n v.shard) case.payload)))) → Each P (prepare n txn case view)
 unfolding prepare
 each-prepare P n txn case None h = each-none P
@@ -72,7 +78,7 @@ unfolding accept
 each-accept_in P entry acks None h = each-none P
 each-accept_in P entry acks (Some v) h = each-accept P entry acks v (λ node s. h v node refl s)
 
-each-part : (P : Outgoing → Type 0) (n : ℕ) (txn : TxId) (case : Case) (entry : Option Preparation) (acks : List ℕ) (view : Option Membership)
+pub each-part : (P : Outgoing → Type 0) (n : ℕ) (txn : TxId) (case : Case) (entry : Option Preparation) (acks : List ℕ) (view : Option Membership)
     → ((v : Membership) → view ≡ Some v → P (to v.leader (Prepare v.epoch txn case.shards (option_and_then (restricted n v.shard) case.payload))))
     → ((x : Preparation) (v : Membership) (node : ℕ) → entry ≡ Some x → view ≡ Some v → StandsIn node (followers v) → P (to node (Accept v.epoch x))) → Each P (send_part n txn case entry acks view)
 unfolding send_part
@@ -161,6 +167,26 @@ each-state P version config rows f g = each-flat_map P (state_to version config 
     (each-one P _ (f node)))
 
 -- notices that a message was not acted on
-pub each-notice : (P : Outgoing → Type 0) (os : List Outgoing) → AreNotices os → ((node kind mark : ℕ) (why : Why) → P (to node (Refused kind why mark))) → Each P os
-each-notice P _ Silent h = each-none P
-each-notice P _ (Notice node kind mark why) h = each-one P _ (h node kind mark why)
+pub each-notice : {Mark : ℕ → Type 0} {input : Input} {full_mark : ℕ} {answer : Handled} (P : Outgoing → Type 0) (os : List Outgoing) → IsRefusal Mark input full_mark answer os
+    → ((node kind mark : ℕ) (why : Why) → P (to node (Refused kind why mark))) → Each P os
+each-notice {input = input} {full_mark = full_mark} {answer = answer} P os r h = subst (Each P) (sym r.only) (of_input input)
+  where
+    of_answer : (from kind : ℕ) (answer : Handled) → Each P (notice_of answer from kind full_mark)
+    of_answer from kind Acted = each-none P
+    of_answer from kind (Stale mark) = each-one P _ (h from kind mark why.Stale)
+    of_answer from kind (Held mark) = each-one P _ (h from kind mark why.Held)
+    of_answer from kind Full = each-one P _ (h from kind full_mark why.Full)
+
+    of_message : (b : Bool) (notices : List Outgoing) → Each P notices → Each P (cond b notices [])
+    of_message true notices k = k
+    of_message false notices k = each-none P
+
+    of_input : (input : Input) → Each P (notices_for input answer full_mark)
+    of_input (inputs.Certify payload) = each-none P
+    of_input (inputs.Take txn) = each-none P
+    of_input inputs.Nudge = each-none P
+    of_input (inputs.Move shard want) = each-none P
+    of_input inputs.Lower = each-none P
+    of_input (inputs.ReadName name) = each-none P
+    of_input (inputs.Ask shard) = each-none P
+    of_input (inputs.Deliver from message) = of_message (is_answered message) (notice_of answer from (kind_of message) full_mark) (of_answer from (kind_of message) answer)

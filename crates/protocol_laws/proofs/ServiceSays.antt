@@ -11,19 +11,13 @@ use Rattle.protocol.specs.Service.{tell_nodes}
 use Rattle.protocol.specs.Invariant.Time.{StandsIn}
 use Rattle.protocol_laws.specs.Change.{Serves}
 use Rattle.protocol_laws.specs.Change.Serves.{HoldsBack, Tells, Stores}
-use Rattle.protocol_laws.specs.Effect.{AreNotices}
-use Rattle.protocol_laws.specs.Effect.AreNotices.{Silent, Notice}
+use Rattle.protocol_laws.proofs.Sends.{each-notice}
 use Rattle.protocol_laws.proofs.Standing.{IsMapped, map-StandsIn, StandsIn-right}
 
 pub data ServiceSays (kept : List Membership) : Message → Type 0 where
   TellsStored : (c : Membership) → StandsIn c kept → ServiceSays kept (Stored c)
   TellsChange : (c : Membership) → StandsIn c kept → ServiceSays kept (ConfigChange c)
   Refuses : (kind : ℕ) (why : Why) (mark : ℕ) → ServiceSays kept (Refused kind why mark)
-
-notices-said : (kept : List Membership) (notices : List Outgoing) (o : Outgoing) → AreNotices notices → StandsIn o notices → ServiceSays kept o.message
-notices-said kept _ o Silent s = absurd s
-notices-said kept _ o (Notice node kind mark why) (inl e) = subst (λ q. ServiceSays kept q.message) (sym e) (Refuses kind why mark)
-notices-said kept _ o (Notice node kind mark why) (inr s) = absurd s
 
 nodes-said : (kept : List Membership) (nodes : ℕ) (c : Membership) (o : Outgoing) → StandsIn c kept → StandsIn o (tell_nodes nodes c) → ServiceSays kept o.message
 unfolding tell_nodes
@@ -33,7 +27,7 @@ nodes-said kept nodes c o k s =
 
 pub service_says : (nodes : ℕ) (configs : List Membership) (from : ℕ) (message : Message) (out : Out (List Membership)) → Serves nodes configs from message out
     → (o : Outgoing) → StandsIn o out.sends → ServiceSays out.kept o.message
-service_says nodes configs from message out (HoldsBack m answer notices n) o s = notices-said configs notices o n s
+service_says nodes configs from message out (HoldsBack m answer notices n) o s = each-notice (λ o. ServiceSays configs o.message) notices n (λ node kind mark why. Refuses kind why mark) o s
 service_says nodes configs from message out (Tells m c k) o (inl e) = subst (λ q. ServiceSays configs q.message) (sym e) (TellsStored c k)
 service_says nodes configs from message out (Tells m c k) o (inr s) = absurd s
 service_says nodes configs from message out (Stores c last n l e) o (inl q) = subst (λ p. ServiceSays (configs ++ c ∷ []) p.message) (sym q) (TellsStored c (StandsIn-right configs (c ∷ []) c (inl refl)))

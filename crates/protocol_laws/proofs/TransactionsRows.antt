@@ -40,7 +40,7 @@ pub data RowCame (tests : Tests) (node new : NodeRecord) (r : Row) : Input → T
       → RowCame tests node new r input
 
 -- a piece among those of a gathering with one more
-data PieceCame (gathering : Option Gathering) (config : Membership) (piece p : Piece) : Type 0 where
+pub data PieceCame (gathering : Option Gathering) (config : Membership) (piece p : Piece) : Type 0 where
   IsNewPiece : p ≡ piece → PieceCame gathering config piece p
   IsOldPiece : (g : Gathering) → gathering ≡ Some g → StandsIn p g.kept → g.config.shard ≡ config.shard → g.config.epoch ≡ config.epoch → PieceCame gathering config piece p
 
@@ -51,7 +51,7 @@ one_more_came g piece p s = go (is_kept g.kept piece.number) s
     go true k = inl k
     go false k = with_piece-StandsIn g.kept piece p k
 
-piece_came : (gathering : Option Gathering) (config : Membership) (pieces : ℕ) (piece p : Piece) → StandsIn p (with_one_more (gathering_for gathering config pieces) piece).kept → PieceCame gathering config piece p
+pub piece_came : (gathering : Option Gathering) (config : Membership) (pieces : ℕ) (piece p : Piece) → StandsIn p (with_one_more (gathering_for gathering config pieces) piece).kept → PieceCame gathering config piece p
 piece_came None config pieces piece p s = elim (one_more_came (begun config pieces) piece p s) [ inr e ↦ IsNewPiece e | inl k ↦ absurd k ]
 piece_came (Some g) config pieces piece p s = go (is_gathering_of g config) refl s
   where
@@ -60,13 +60,13 @@ piece_came (Some g) config pieces piece p s = go (is_gathering_of g config) refl
     go false e k = elim (one_more_came (begun config pieces) piece p k) [ inr q ↦ IsNewPiece q | inl q ↦ absurd q ]
 
 -- a row among those in which a slot was marked
-record IsMarked (rows : List Row) (slot : ℕ) (commit : Bool) (r : Row) : Type 0 where
-  old : Row
-  among : StandsIn old rows
-  at_slot : old.entry.slot ≡ slot
-  is : r ≡ set_mark (mark_of commit) old
+pub record IsMarked (rows : List Row) (slot : ℕ) (commit : Bool) (r : Row) : Type 0 where
+  pub old : Row
+  pub among : StandsIn old rows
+  pub at_slot : old.entry.slot ≡ slot
+  pub is : r ≡ set_mark (mark_of commit) old
 
-marked_came : (rows : List Row) (slot : ℕ) (commit : Bool) (r : Row) → StandsIn r (marked rows slot (mark_of commit)) → StandsIn r rows ⊎ IsMarked rows slot commit r
+pub marked_came : (rows : List Row) (slot : ℕ) (commit : Bool) (r : Row) → StandsIn r (marked rows slot (mark_of commit)) → StandsIn r rows ⊎ IsMarked rows slot commit r
 marked_came rows slot commit r s = go (map-StandsIn (λ (q : Row). cond (q.entry.slot == slot) (set_mark (mark_of commit) q) q) rows r s)
   where
     at : (old : Row) (b : Bool) → StandsIn old rows → (old.entry.slot == slot) ≡ b → r ≡ cond b (set_mark (mark_of commit) old) old → StandsIn r rows ⊎ IsMarked rows slot commit r

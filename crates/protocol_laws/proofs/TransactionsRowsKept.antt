@@ -45,7 +45,7 @@ vote_names tests t rows p k = go (find (λ row. clashes tests row p) rows) refl
     go (Some row) e = k row (find-StandsIn (λ row. clashes tests row p) rows row e).0
 
 -- a new entry, where its payload is lost or not
-keeps_payload : (tests : Tests) (rows : List Row) (part : Option Accesses) → is_none part ≡ is_lost (vote_on_part tests rows part)
+pub keeps_payload : (tests : Tests) (rows : List Row) (part : Option Accesses) → is_none part ≡ is_lost (vote_on_part tests rows part)
 keeps_payload tests rows None = refl
 keeps_payload tests rows (Some p) = sym (vote_not_lost tests rows p)
 

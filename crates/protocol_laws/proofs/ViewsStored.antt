@@ -15,7 +15,7 @@ pub record IsView (t : Moment) (shard : ℕ) (v : Membership) : Type 0 where
   pub stored : IsStored t v
   pub of_shard : v.shard ≡ shard
 
-view_stored : (setup : Deployment) (t : Moment) (node : NodeRecord) (v : Membership) → ConfigurationsHold setup t → IsNode t node → StandsIn v node.coordinator.views → IsStored t v
+pub view_stored : (setup : Deployment) (t : Moment) (node : NodeRecord) (v : Membership) → ConfigurationsHold setup t → IsNode t node → StandsIn v node.coordinator.views → IsStored t v
 view_stored setup t node v k n s = k.in_nodes node v n ((had node v).views s)
 
 pub view_is : (setup : Deployment) (t : Moment) (node : NodeRecord) (shard : ℕ) (v : Membership) → ConfigurationsHold setup t → IsNode t node → view_of node.coordinator.views shard ≡ Some v → IsView t shard v

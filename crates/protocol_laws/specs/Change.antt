@@ -14,14 +14,19 @@ use Rattle.tcs_laws.specs.Certification.{Tests}
 use Rattle.protocol.specs.FoundNothing.{has_acted}
 use Rattle.protocol.specs.Outcomes.{Out, to, acts}
 use Rattle.protocol.specs.Records.{NodeRecord}
-use Rattle.protocol.specs.Service.{config_at, last_config, tell_nodes}
+use Rattle.protocol.specs.Service.{config_at, last_config, last_epoch, tell_nodes}
 use Rattle.protocol.specs.World.{World, Sent, Happening, passes, stops, happens_at, happens_at_service, node_of, message_of}
 use Rattle.protocol.specs.Invariant.Time.{StandsIn}
-use Rattle.protocol_laws.specs.Effect.{AreNotices, Effect}
+use Rattle.protocol_laws.specs.Effect.{IsRefusal, Effect}
+
+-- the marks against which the service holds a message: the last epoch of a shard, and 0 where it names none
+pub data IsServiceMark (configs : List Membership) : ℕ → Type 0 where
+  NoMark : IsServiceMark configs 0
+  LastEpoch : (shard : ℕ) → IsServiceMark configs (last_epoch configs shard)
 
 -- what the service does with a message
 pub data Serves (nodes : ℕ) (configs : List Membership) (from : ℕ) : Message → Out (List Membership) → Type 0 where
-  HoldsBack : (message : Message) (answer : Handled) (notices : List Outgoing) → AreNotices notices
+  HoldsBack : (message : Message) (answer : Handled) (notices : List Outgoing) → IsRefusal (IsServiceMark configs) (inputs.Deliver from message) 0 answer notices
       → Serves nodes configs from message (record { answer = answer; kept = configs; sends = notices; notes = [] })
   Tells : (message : Message) (c : Membership) → StandsIn c configs → Serves nodes configs from message (acts configs (to from (Stored c) ∷ []))
   Stores : (c last : Membership) → config_at configs c.shard c.epoch ≡ None → last_config configs c.shard ≡ Some last → c.epoch ≡ last.epoch + 1

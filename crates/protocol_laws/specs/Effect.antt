@@ -1,21 +1,23 @@
 -- What a node does with an input, rule by rule: what held before, what the node is afterwards, what it sends and notes.
-use Rattle.std.specs.Prelude.{◌≡◌, ℕ, ◌+◌, ◌-◌, ◌<◌, ◌≤◌, Bool, true, false, List, [], ◌∷◌, ◌++◌, flat_map, length, Option, Some, None}
+use Rattle.std.specs.Prelude.{◌≡◌, ℕ, ◌+◌, ◌-◌, ◌<◌, ◌≤◌, Bool, true, false, if◌then◌else◌, List, [], ◌∷◌, ◌++◌, flat_map, length, Option, Some, None}
 use Rattle.tcs_terms.specs.declared.limits.TheConstants.{MAX_SEQUENCE, MAX_EPOCH}
 use Rattle.tcs_terms.specs.declared.ids.TxId.{TxId}
 use Rattle.tcs_terms.specs.declared.inputs.Handled.{Handled}
+use Rattle.tcs_terms.specs.declared.inputs.Handled.TheVariants.{Acted, Stale, Held, Full}
 use Rattle.tcs_terms.specs.declared.inputs.Input.{Input}
 use Rattle.tcs_terms.specs.declared.inputs.Input.TheVariants as inputs
 use Rattle.tcs_terms.specs.declared.inputs.Note.TheVariants as notes
 use Rattle.tcs_terms.specs.declared.logs.Row.{Row}
+use Rattle.tcs_terms.specs.declared.messages.Message.{Message}
 use Rattle.tcs_terms.specs.declared.messages.Message.TheVariants.{Prepare, PrepareAck, Accept, AcceptAck, DecisionFor, Probe, ProbeAck, NewConfig, NewState, ConfigChange, Last, At, Cas, Stored, OutcomeOf, Refused, StatePiece}
 use Rattle.tcs_terms.specs.declared.messages.Outgoing.{Outgoing}
-use Rattle.tcs_terms.specs.declared.messages.Why.{Why}
 use Rattle.tcs_terms.specs.declared.votes.Decision.{Decision}
 use Rattle.tcs_terms.specs.Payloads.{Accesses}
 use Rattle.tcs_terms.specs.Places.{Membership, is_among}
 use Rattle.tcs_terms.specs.Preparations.{Preparation}
 use Rattle.tcs_terms.specs.Shards.{shards_of, lies_in}
 use Rattle.tcs_laws.specs.Certification.{Tests}
+use Rattle.protocol.specs.Notices.{notice_of}
 use Rattle.protocol.specs.Outcomes.{Out, to, tells, acts}
 use Rattle.protocol.specs.Records.{Part, Case, Coordinator, Stage, Gathering, NodeRecord}
 use Rattle.protocol.specs.Records.Role.{Fenced, Leader}
@@ -24,17 +26,70 @@ use Rattle.protocol.specs.Views.{view_of, view_epoch, followers, is_follower}
 use Rattle.protocol.specs.Log.{row_of, is_full, new_entry, undecided, has_at, is_taken, accepted, marked, mark_of}
 use Rattle.protocol.specs.Cases.{new_case, part_of, accept, send_case, is_complete, decision_of, tell_decision}
 use Rattle.protocol.specs.Coordination.{case_of, with_case, without_case, begins, with_part, fits_slot, first_entry, voted, voted_at, acknowledged, resend, change_view, ask_leader, is_newer, add_once}
-use Rattle.protocol.specs.Probing.{probe, ask_stage, tell_leader, proposed}
+use Rattle.protocol.specs.Probing.{prober_epoch, probe, ask_stage, tell_leader, proposed}
 use Rattle.protocol.specs.Pieces.{takes_piece, gathering_for, with_one_more, is_whole, rows_of, gathered_from}
 use Rattle.protocol.specs.Versions.{read_of, value_or_empty}
 use Rattle.protocol.specs.ShardRules.{is_leader, is_following, least, with_rows, state_to, follows}
 use Rattle.protocol.specs.ClientRules.{next_txn, is_undecided, may_exist}
 use Rattle.protocol.specs.Table.{with_outcome}
+use Rattle.wire_frame.specs.Spelling.{kind_of}
 
--- nothing, or one notice that a message was not acted on
-pub data AreNotices : List Outgoing → Type 0 where
-  Silent : AreNotices []
-  Notice : (node kind mark : ℕ) (why : Why) → AreNotices (to node (Refused kind why mark) ∷ [])
+-- whether the sender of a message hears where it is not acted on
+abbrev pub is_answered : Message → Bool
+is_answered (Prepare epoch txn shards payload) = true
+is_answered (PrepareAck shard epoch entry) = true
+is_answered (Accept epoch entry) = true
+is_answered (AcceptAck shard epoch slot txn) = true
+is_answered (DecisionFor epoch slot txn commit) = true
+is_answered (Probe epoch) = true
+is_answered (ProbeAck epoch state) = true
+is_answered (NewConfig config) = true
+is_answered (NewState config rows) = true
+is_answered (ConfigChange config) = false
+is_answered (Last shard) = true
+is_answered (At shard epoch) = true
+is_answered (Cas config) = true
+is_answered (Stored config) = false
+is_answered (OutcomeOf txn decision) = false
+is_answered (Refused kind why mark) = false
+is_answered (StatePiece config number pieces rows) = true
+
+-- the notice of an answer to the sender of a message; the number is the mark where the log is full
+abbrev pub notices_to : ℕ → Message → Handled → ℕ → List Outgoing
+notices_to from message answer full_mark = if is_answered message then notice_of answer from (kind_of message) full_mark else []
+
+-- what is sent where an input is not acted on
+abbrev pub notices_for : Input → Handled → ℕ → List Outgoing
+notices_for (inputs.Certify payload) answer full_mark = []
+notices_for (inputs.Take txn) answer full_mark = []
+notices_for inputs.Nudge answer full_mark = []
+notices_for (inputs.Move shard want) answer full_mark = []
+notices_for inputs.Lower answer full_mark = []
+notices_for (inputs.ReadName name) answer full_mark = []
+notices_for (inputs.Ask shard) answer full_mark = []
+notices_for (inputs.Deliver from message) answer full_mark = notices_to from message answer full_mark
+
+-- The marks against which a node holds an input: its promise, its state epoch, the least epoch that it may still reach,
+-- the epoch of its view of a shard, the one that its prober is to make, and 0 where there is none.
+pub data IsMark (node : NodeRecord) : ℕ → Type 0 where
+  NoMark : IsMark node 0
+  Promised : IsMark node node.promised
+  Reached : IsMark node node.state
+  Least : IsMark node (least node)
+  Viewed : (shard : ℕ) → IsMark node (view_epoch node.coordinator.views shard)
+  Wanted : IsMark node (prober_epoch node.prober)
+
+-- an answer, by the marks that it may tell; a notice that is delivered is acted on, and changes nothing either
+abbrev pub Tells : (ℕ → Type 0) → Handled → Type 0
+Tells Mark Acted = Unit {0}
+Tells Mark (Stale mark) = Mark mark
+Tells Mark (Held mark) = Mark mark
+Tells Mark Full = Unit {0}
+
+-- an answer and the notices that are sent with it, where nothing changes
+pub record IsRefusal (Mark : ℕ → Type 0) (input : Input) (full_mark : ℕ) (answer : Handled) (notices : List Outgoing) : Type 0 where
+  pub mark : Tells Mark answer
+  pub only : notices ≡ notices_for input answer full_mark
 
 -- the coordinator after it heard of a configuration, and what it sends: a newer one replaces the view of its shard
 pub data Sees (c : Coordinator) (config : Membership) : Coordinator → List Outgoing → Type 0 where
@@ -81,7 +136,7 @@ with_stage node stage = record node { prober = stage }
 -- what a node does with an input
 pub data Effect (tests : Tests) (version : ℕ) (node : NodeRecord) : Input → Out NodeRecord → Type 0 where
   -- nothing changes
-  Rests : (input : Input) (answer : Handled) (notices : List Outgoing) → AreNotices notices
+  Rests : (input : Input) (answer : Handled) (notices : List Outgoing) → IsRefusal (IsMark node) input node.promised answer notices
       → Effect tests version node input (record { answer = answer; kept = node; sends = notices; notes = [] })
   -- what clients ask
   Certifies : (payload : Accesses) → node.next ≤ MAX_SEQUENCE → (case : Case) → case ≡ new_case (shards_of (length node.coordinator.views) payload) (Some payload)

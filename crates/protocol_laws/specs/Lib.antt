@@ -1,7 +1,15 @@
 pub mod Effect
 pub mod Change
 pub mod Turn
-pub mod Runs
 pub mod Limits
 pub mod Rising
 pub mod Told
+pub mod Promises
+pub mod Growth
+pub mod Ranges
+pub mod Refusals
+pub mod EpochsBelow
+pub mod Losses
+pub mod Addresses
+pub mod NamedShards
+pub mod Exchange

@@ -24,7 +24,7 @@ use Rattle.schedule_text.specs.declared.verbs.CallVerb.TheVariants as calls
 use Rattle.schedule_text.specs.declared.verbs.Verb.{Verb}
 use Rattle.schedule_text.specs.declared.verbs.Verb.TheVariants as verbs
 use Rattle.tcs_terms.specs.Texts.{txn_text}
-use Rattle.schedule_text.specs.Whole.{IsInput, IsEvent}
+use Rattle.tcs_terms.specs.Runs.{IsInput, IsEvent}
 use Rattle.schedule_text.specs.Words.{is_for, end_at, between_at, caller_at, name_at, payload_words_at, txn_at, nodes_at}
 use Rattle.schedule_text.specs.Events.{call_verb, verb_or, verb_of, alone_at, certify_at, take_at, move_at, read_at, ask_at, input_at, call_at, delivery_at, stop_at, event_at}
 use Rattle.schedule_text.proofs.LineWords.{call_words, event_words}

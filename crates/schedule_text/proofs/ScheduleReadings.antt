@@ -20,7 +20,8 @@ use Rattle.schedule_text.specs.Words.{end_at}
 use Rattle.schedule_text.specs.Header.{head_at}
 use Rattle.schedule_text.specs.Events.{verb_of, event_at}
 use Rattle.schedule_text.specs.Schedules.{Progress, at_start, head_item, header_line_at, end_line_at, counted_event_at, verb_line_at, first_verb, event_line_at, line_reading}
-use Rattle.schedule_text.specs.Whole.{MayStand, IsRead, Begins, reads, header_items, schedule_items}
+use Rattle.schedule_text.specs.Whole.{IsRead, Begins, reads, header_items, schedule_items}
+use Rattle.tcs_terms.specs.Runs.{MayStand}
 use Rattle.schedule_text.proofs.EventReadings.{verb_word, verb_named, event_takes}
 use Rattle.schedule_text.proofs.EventSpellings.{Small, spellable}
 use Rattle.schedule_text.proofs.HeaderReadings.{head_lines, HeadStands, HeadItem, in_header, head_takes, map_end}

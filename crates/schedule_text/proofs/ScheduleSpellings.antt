@@ -28,7 +28,8 @@ use Rattle.schedule_text.specs.declared.verbs.Verb.TheVariants as verbs
 use Rattle.schedule_text.specs.Text.{version_line, certifier_line, shards_line, node_line, first_lines, node_lines, config_line, setup_lines, event_line, schedule_lines}
 use Rattle.schedule_text.specs.Header.{Head, head_at, no_parts}
 use Rattle.schedule_text.specs.Schedules.{Progress, at_start, head_item, header_line_at, end_line_at, counted_event_at, event_line_at, line_reading}
-use Rattle.schedule_text.specs.Whole.{MayStand, IsSchedule, reads, header_items, schedule_items, at_end}
+use Rattle.schedule_text.specs.Whole.{IsSchedule, reads, header_items, schedule_items, at_end}
+use Rattle.tcs_terms.specs.Runs.{MayStand}
 use Rattle.schedule_text.proofs.EventReadings.{verb_word, names_verb}
 use Rattle.schedule_text.proofs.EventSpellings.{Small, spellable, event_again, names_only, small_nodes}
 use Rattle.schedule_text.proofs.HeaderReadings.{in_header}

@@ -31,7 +31,8 @@ use Rattle.schedule_text.specs.declared.limits.TheConstants.{LINE_LIMIT}
 use Rattle.schedule_text.specs.Lines.{has_feed, IsLine}
 use Rattle.tcs_terms.specs.Texts.{txn_text}
 use Rattle.schedule_text.specs.Text.{spaced_number, numbers_text, version_line, certifier_line, shards_line, node_line, node_lines, config_line, first_lines, setup_lines, call_line, event_line, schedule_lines}
-use Rattle.schedule_text.specs.Whole.{MayStand, IsSchedule}
+use Rattle.schedule_text.specs.Whole.{IsSchedule}
+use Rattle.tcs_terms.specs.Runs.{MayStand}
 use Rattle.schedule_text.proofs.EventSpellings.{Small, spellable, move_fits}
 use Rattle.schedule_text.proofs.LineWords.{IsSpellable, IsSpellableEvent}
 use Rattle.schedule_text.proofs.ScheduleReadings.{small_setup}

@@ -1,14 +1,9 @@
--- Whole schedules: which events may stand in one, and how all of its lines are read.
-use Rattle.std.specs.Prelude.{◌≡◌, ℕ, ◌<◌, ◌≤◌, ◌^◌, List, [], ◌∷◌, ◌++◌, length, map, IsTrue, Result, Ok}
+-- Whole schedules, and how all of their lines are read.
+use Rattle.std.specs.Prelude.{◌≡◌, ℕ, ◌≤◌, List, [], ◌∷◌, ◌++◌, length, map, Result, Ok}
 use Rattle.std.specs.List.{AllByRecursion}
-use Rattle.tcs_terms.specs.declared.inputs.Input.{Input}
-use Rattle.tcs_terms.specs.declared.inputs.Input.TheVariants.{Certify, Take, Nudge, Move, Lower, ReadName, Ask, Deliver}
 use Rattle.tcs_terms.specs.declared.inputs.Event.{Event}
-use Rattle.tcs_terms.specs.declared.inputs.Event.TheVariants.{Call, DeliverNumber, Stop}
 use Rattle.tcs_terms.specs.declared.words.Reason.{Reason}
-use Rattle.tcs_terms.specs.Events.{event_fits}
-use Rattle.tcs_terms.specs.Objects.{IsName}
-use Rattle.tcs_terms.specs.Payloads.{IsPayload}
+use Rattle.tcs_terms.specs.Runs.{MayStand}
 use Rattle.tcs_terms.specs.Setups.{Deployment, IsDeployment}
 use Rattle.schedule_text.specs.declared.limits.TheConstants.{EVENT_LIMIT}
 use Rattle.schedule_text.specs.declared.lines.Got.TheVariants.{Whole}
@@ -18,28 +13,6 @@ use Rattle.schedule_text.specs.declared.reader.LineItem.TheVariants as items
 use Rattle.schedule_text.specs.Text.{first_lines, node_lines, config_line, schedule_lines}
 use Rattle.schedule_text.specs.Words.{◌>>=◌}
 use Rattle.schedule_text.specs.Schedules.{Progress, line_reading}
-
--- the values that an input can have: a payload is well formed, and a name is one
-abbrev pub IsInput : Input → Type 0
-IsInput (Certify payload) = IsPayload payload
-IsInput (Take txn) = Unit {0}
-IsInput Nudge = Unit {0}
-IsInput (Move shard want) = Unit {0}
-IsInput Lower = Unit {0}
-IsInput (ReadName name) = IsName name
-IsInput (Ask shard) = Unit {0}
-IsInput (Deliver from message) = Unit {0}
-
--- the values that an event can have: a message's number is below 2 ^ 32
-abbrev pub IsEvent : Event → Type 0
-IsEvent (Call node input) = IsInput input
-IsEvent (DeliverNumber number) = number < 2 ^ 32
-IsEvent (Stop node) = Unit {0}
-
--- an event that may stand in a schedule of the setup
-pub record MayStand (d : Deployment) (e : Event) : Type 0 where
-  pub event : IsEvent e
-  pub fits : IsTrue (event_fits d e)
 
 -- a setup, and at most 1,000,000 events that fit it
 pub record IsSchedule (d : Deployment) (es : List Event) : Type 0 where

@@ -1,5 +1,5 @@
 pub mod Bytes
 pub mod Faults
 pub mod Memory
-pub mod Output
+pub mod Streams
 pub mod Plan

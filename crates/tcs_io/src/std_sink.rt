@@ -1,8 +1,7 @@
 //! Standard output, and whatever else std writes to.
 ghost use Rattle.std.specs.Prelude.{◌≡◌, ◌<◌, ◌≤◌, [], None, length, IfOk, OnOk, OnErr, IfErr};
-ghost use Rattle.std.specs.Io.Buffered.{writer_buffer};
+ghost use Rattle.std.specs.Io.KnownBytes.{Keeps, WriteAppends};
 ghost use Rattle.tcs_io.specs.Faults.{last_u64, one_more};
-ghost use Rattle.tcs_io.specs.Output.{Output};
 
 use crate::{Failed, Sink, SinkStop};
 use std::alloc::{AllocError, Global};
@@ -10,7 +9,9 @@ use std::io::{BufWriter, Write};
 use std::marker::Model;
 
 /// Writes through a buffer, and counts each error in 64 bits, up to the last value. A write that takes nothing of a
-/// piece that is not empty is an error too. It tells no bytes: contracts see what its buffer keeps, and its count.
+/// piece that is not empty is an error too. As a sink it tells no bytes, since std tells those of few writers. Contracts
+/// see what its buffer keeps, its count, and what the writer and the buffer hold by std's account: exactly what was
+/// written.
 ///
 /// What the buffer still keeps when it is dropped is passed on too, but no error is told then: call `flush` first.
 #[derive(Debug, Drop)]
@@ -20,15 +21,24 @@ pub struct StdSink<W: Write + Drop> {
 }
 
 impl<W: Write + Drop> Model for StdSink<W> {
+    ghost use Rattle.std.specs.Io.Buffered.{writer_buffer, writer_contents};
+    ghost use Rattle.tcs_io.specs.Streams.{Output};
+
     ghost Value = { Output };
 
-    ghost view = { λ sink. record { waiting = writer_buffer sink.writer; faults = sink.faults } };
+    ghost view = { λ sink. record {
+      waiting = writer_buffer sink.writer;
+      contents = writer_contents W.contents sink.writer;
+      faults = sink.faults;
+    } };
 }
 
 impl<W: Write + Drop> StdSink<W> {
     /// Writes to this writer. It fails only for want of memory, and then drops the writer.
     pub fn new(alloc: Global, writer: W) -> Result<Self, AllocError>
-        ensures { IfOk result (λ sink. sink ≡ record { waiting = []; faults = 0 }) }
+        ensures waiting { IfOk result (λ sink. sink.waiting ≡ []) }
+        ensures faults { IfOk result (λ sink. sink.faults ≡ 0) }
+        ensures bytes { IfOk result (λ sink. sink.contents ≡ W.contents writer) }
     {
         let writer = BufWriter::new(alloc, writer).map_err(|_| AllocError)?;
         Ok(StdSink { writer, faults: 0 })
@@ -37,6 +47,7 @@ impl<W: Write + Drop> StdSink<W> {
     /// Passes on what the buffer still keeps. Call it after the last write.
     pub fn flush(&mut self) -> Result<(), Failed>
         ensures passed { OnOk result (self.new.waiting ≡ []) }
+        ensures kept { Keeps self.old.contents self.new.contents }
         ensures ok { OnOk result (self.new.faults ≡ self.old.faults) }
         ensures failed { OnErr result (self.new.faults ≡ one_more self.old.faults) }
     {
@@ -58,6 +69,8 @@ impl<W: Write + Drop> Sink for StdSink<W> {
     fn write(&mut self, piece: &[u8]) -> Result<usize, SinkStop>
         ensures within { IfOk result (λ n. n ≤ length piece.now) }
         ensures some { IfOk result (λ n. 0 < length piece.now → 1 ≤ n) }
+        // What is taken of the piece is held behind what was.
+        ensures appended { WriteAppends self.old.contents self.new.contents result piece.now }
         ensures ok { OnOk result (self.new.faults ≡ self.old.faults) }
         ensures failed { OnErr result (self.new.faults ≡ one_more self.old.faults) }
         ensures cause { IfErr result (λ stop. stop ≡ SinkStop.Failed) }

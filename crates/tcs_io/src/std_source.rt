@@ -1,5 +1,6 @@
 //! Standard input, and whatever else std reads from.
-ghost use Rattle.std.specs.Prelude.{◌≡◌, ℕ, ◌<◌, ◌≤◌, None, length, IfOk, OnOk, OnErr};
+ghost use Rattle.std.specs.Prelude.{◌≡◌, ◌<◌, ◌≤◌, None, length, IfOk, OnOk, OnErr};
+ghost use Rattle.std.specs.Io.KnownBytes.{ReadConsumes};
 ghost use Rattle.tcs_io.specs.Faults.{last_u64, one_more};
 
 use crate::{Failed, Source};
@@ -7,8 +8,9 @@ use std::alloc::{AllocError, Global};
 use std::io::{BufReader, Read};
 use std::marker::Model;
 
-/// Reads through a buffer, and counts each error in 64 bits, up to the last value. It tells no bytes: contracts see
-/// it as its count.
+/// Reads through a buffer, and counts each error in 64 bits, up to the last value. As a source it tells no bytes, since
+/// std tells those of few readers. Contracts see it as its count, and as the bytes that are left by std's account: it
+/// gives exactly these, one after the other.
 #[derive(Debug, Drop)]
 pub struct StdSource<R: Read> {
     reader: BufReader<R>,
@@ -16,15 +18,19 @@ pub struct StdSource<R: Read> {
 }
 
 impl<R: Read> Model for StdSource<R> {
-    ghost Value = { ℕ };
+    ghost use Rattle.std.specs.Io.Buffered.{reader_remaining};
+    ghost use Rattle.tcs_io.specs.Streams.{Input};
 
-    ghost view = { λ source. source.faults };
+    ghost Value = { Input };
+
+    ghost view = { λ source. record { remaining = reader_remaining R.remaining source.reader; faults = source.faults } };
 }
 
 impl<R: Read + Drop> StdSource<R> {
     /// Reads from this reader. It fails only for want of memory, and then drops the reader.
     pub fn new(alloc: Global, reader: R) -> Result<Self, AllocError>
-        ensures { IfOk result (λ source. source ≡ 0) }
+        ensures faults { IfOk result (λ source. source.faults ≡ 0) }
+        ensures bytes { IfOk result (λ source. source.remaining ≡ R.remaining reader) }
     {
         let reader = BufReader::new(alloc, reader).map_err(|_| AllocError)?;
         Ok(StdSource { reader, faults: 0 })
@@ -32,7 +38,7 @@ impl<R: Read + Drop> StdSource<R> {
 }
 
 impl<R: Read> Source for StdSource<R> {
-    ghost faults = { λ source. source };
+    ghost faults = { λ source. source.faults };
 
     ghost left = { λ _. None };
 
@@ -40,11 +46,13 @@ impl<R: Read> Source for StdSource<R> {
         requires { 0 < length buf.old }
 
         ensures within { IfOk result (λ n. n ≤ length buf.old) }
-        ensures ok { OnOk result (self.new ≡ self.old) }
-        ensures failed { OnErr result (self.new ≡ one_more self.old) }
+        // What std's reader has left is given, and only then is it gone.
+        ensures passed { ReadConsumes self.old.remaining self.new.remaining result buf.new }
+        ensures ok { OnOk result (self.new.faults ≡ self.old.faults) }
+        ensures failed { OnErr result (self.new.faults ≡ one_more self.old.faults) }
 
-        ensures count { self.old ≤ self.new }
-        ensures limit { self.new ≤ last_u64 }
+        ensures count { self.old.faults ≤ self.new.faults }
+        ensures limit { self.new.faults ≤ last_u64 }
     {
         let faults = self.faults;
         match self.reader.read(buf) {

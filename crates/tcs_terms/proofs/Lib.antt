@@ -2,6 +2,7 @@ pub mod BoolLaws
 pub mod OrderLaws
 pub mod NameLaws
 pub mod PayloadLaws
+pub mod PayloadRefusals
 pub mod PlaceLaws
 pub mod NumberLaws
 pub mod Appending
@@ -12,6 +13,7 @@ pub mod WordReadings
 pub mod RuleReadings
 pub mod RowLaws
 pub mod SetupLaws
+pub mod RunLaws
 pub mod ShardLaws
 pub mod PayloadReadings
 pub mod PayloadSpelling

@@ -1,12 +1,12 @@
 -- Numbers are a configuration exactly where they have no fault.
-use Rattle.std.proofs.Common.{◌≡◌, true, not, ◌&&◌, cond, length, Some, None, refl, arith}
-use Rattle.std.specs.Prelude.{nat_le}
+use Rattle.std.proofs.Common.{◌≡◌, ℕ, ◌+◌, ◌≤◌, List, [], ◌∷◌, true, not, ◌&&◌, cond, length, Some, None, refl, arith}
+use Rattle.std.specs.Prelude.{nat_le, nat_lt}
 use Rattle.std.specs.List.{list_all}
 use Rattle.std.proofs.lemmas.Bool.Decides.{nat_tests}
-use Rattle.tcs_terms.specs.declared.limits.TheConstants.{MAX_NODES, MAX_MEMBERS}
+use Rattle.tcs_terms.specs.declared.limits.TheConstants.{MAX_SHARDS, MAX_NODES, MAX_MEMBERS}
 use Rattle.tcs_terms.specs.declared.faults.BadConfig.TheVariants.{Members, Leader, Number}
 use Rattle.tcs_terms.specs.Order.{ascends}
-use Rattle.tcs_terms.specs.Places.{is_shard, is_node, is_epoch, is_among, Membership, IsMembership}
+use Rattle.tcs_terms.specs.Places.{is_shard, is_node, is_epoch, is_among, Membership, IsMembership, IsShardSet}
 use Rattle.tcs_terms.specs.ConfigFaults.{may_be_members, config_fault}
 use Rattle.tcs_terms.proofs.BoolLaws.{both, left_of, right_of, not_true, passed}
 
@@ -43,3 +43,24 @@ no_fault_of_a_membership c h =
     let proposer : nat_le c.by MAX_NODES ≡ true = grind (arith, nat_tests) in
     let numbers : (is_shard c.shard && is_epoch c.epoch && nat_le c.by MAX_NODES) ≡ true = both (is_shard c.shard && is_epoch c.epoch) (nat_le c.by MAX_NODES) (both (is_shard c.shard) (is_epoch c.epoch) h.shard h.epoch) proposer in
     rw (members, leads, numbers) refl
+
+-- shards that ascend from a least one on are no more than there are from it on
+few_from : (least : ℕ) (shards : List ℕ) → least ≤ MAX_SHARDS → list_all is_shard shards ≡ true → ascends (least ∷ shards) ≡ true → length shards + least ≤ MAX_SHARDS
+few_from least [] within each h = omega arith
+few_from least (s ∷ ss) within each h =
+    let here : is_shard s ≡ true = left_of (is_shard s) (list_all is_shard ss) each in
+    let high : s ≤ MAX_SHARDS = grind (arith, nat_tests) in
+    let first : nat_lt least s ≡ true = left_of (nat_lt least s) (ascends (s ∷ ss)) h in
+    let above : least + 1 ≤ s = grind (arith, nat_tests) in
+    let rest = few_from s ss high (right_of (is_shard s) (list_all is_shard ss) each) (right_of (nat_lt least s) (ascends (s ∷ ss)) h) in
+    omega arith
+
+-- a set of shards has at most all of them
+pub few_shards : (shards : List ℕ) → IsShardSet shards → length shards ≤ MAX_SHARDS
+few_shards [] h = omega arith
+few_shards (s ∷ ss) h =
+    let here : is_shard s ≡ true = left_of (is_shard s) (list_all is_shard ss) h.each in
+    let high : s ≤ MAX_SHARDS = grind (arith, nat_tests) in
+    let low : 1 ≤ s = grind (arith, nat_tests) in
+    let rest = few_from s ss high (right_of (is_shard s) (list_all is_shard ss) h.each) h.ascend in
+    omega arith

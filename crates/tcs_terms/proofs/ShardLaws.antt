@@ -1,5 +1,5 @@
 -- The part of a payload in a shard is a payload, and its shards are a set of shards.
-use Rattle.std.proofs.Common.{◌≡◌, ℕ, zero, suc, ◌+◌, ◌≤◌, ◌<◌, Bool, true, false, ◌&&◌, ◌||◌, cond, List, [], ◌∷◌, length, map, filter, refl, ap, arith, inl, inr, ◌⊎◌}
+use Rattle.std.proofs.Common.{◌≡◌, ℕ, zero, suc, ◌+◌, ◌≤◌, ◌<◌, Bool, true, false, ◌&&◌, ◌||◌, cond, List, [], ◌∷◌, length, map, filter, Some, refl, ap, arith, inl, inr, ◌⊎◌}
 use Rattle.std.specs.Prelude.{nat_lt, ◌==◌}
 use Rattle.std.specs.List.{list_all, list_any, range_with_len}
 use Rattle.std.specs.Cmp.Lexicographic.{bytes_decides}
@@ -12,7 +12,7 @@ use Rattle.tcs_terms.specs.declared.payloads.WritePart.{WritePart}
 use Rattle.tcs_terms.specs.Order.{ascends, name_before}
 use Rattle.tcs_terms.specs.Places.{is_shard, IsShardSet}
 use Rattle.tcs_terms.specs.Payloads.{Accesses, same_name, reads_name, IsReadPart, IsWritePart, IsPayload}
-use Rattle.tcs_terms.specs.Shards.{shard_of, lies_in, part_in, shards_of}
+use Rattle.tcs_terms.specs.Shards.{shard_of, lies_in, part_in, restricted, shards_of}
 use Rattle.tcs_terms.proofs.BoolLaws.{both, left_of, right_of}
 use Rattle.tcs_terms.proofs.OrderLaws.{names_skip, numbers_skip, kept_ascends, kept_pass, kept_few, range_ascends, range_within}
 
@@ -72,6 +72,43 @@ part_is_payload n shard p h some =
       range_parts = h.range_parts;
       write_parts = All-filter (λ (w : WritePart). lies_in n shard w.name) IsWritePart p.writes h.write_parts;
     }
+
+-- ---- a payload that lies in one shard
+
+all_kept : {X : Type 0} (test : X → Bool) (xs : List X) → list_all test xs ≡ true → filter test xs ≡ xs
+all_kept test [] h = refl
+all_kept test (x ∷ xs) h =
+    let here : test x ≡ true = left_of (test x) (list_all test xs) h in
+    let rest = all_kept test xs (right_of (test x) (list_all test xs) h) in
+    rw (here, rest) refl
+
+-- where all that is read lies in the shard, so does each name that is read
+lies_as_read : (n shard : ℕ) (reads : List ReadPart) (name : List ℕ) → list_all (λ r. lies_in n shard r.name) reads ≡ true → reads_name reads name ≡ true → lies_in n shard name ≡ true
+lies_as_read n shard [] name all h = absurd cc
+lies_as_read n shard (r ∷ rs) name all h =
+    go (same_name r.name name) refl (lies_as_read n shard rs name (right_of (lies_in n shard r.name) (list_all (λ x. lies_in n shard x.name) rs) all)) h where
+      go : (same : Bool) → same_name r.name name ≡ same → (reads_name rs name ≡ true → lies_in n shard name ≡ true) → (same || reads_name rs name) ≡ true → lies_in n shard name ≡ true
+      go true e rest k =
+          let one : r.name ≡ name = (bytes_decides r.name name).0 e in
+          rw (← one) (left_of (lies_in n shard r.name) (list_all (λ x. lies_in n shard x.name) rs) all)
+      go false e rest k = rest k
+
+writes_lie : (n shard : ℕ) (reads : List ReadPart) (ws : List WritePart) → list_all (λ r. lies_in n shard r.name) reads ≡ true → list_all (λ w. reads_name reads w.name) ws ≡ true
+    → list_all (λ w. lies_in n shard w.name) ws ≡ true
+writes_lie n shard reads [] all h = refl
+writes_lie n shard reads (w ∷ ws) all h =
+    both (lies_in n shard w.name) (list_all (λ x. lies_in n shard x.name) ws)
+    (lies_as_read n shard reads w.name all (left_of (reads_name reads w.name) (list_all (λ x. reads_name reads x.name) ws) h))
+    (writes_lie n shard reads ws all (right_of (reads_name reads w.name) (list_all (λ x. reads_name reads x.name) ws) h))
+
+-- where all that is read lies in the shard, the part is the whole
+pub whole_part : (n shard : ℕ) (p : Accesses) → IsPayload p → list_all (λ r. lies_in n shard r.name) p.reads ≡ true → restricted n shard p ≡ Some p
+whole_part n shard p h all =
+    let enough = h.some in
+    let reads = all_kept (λ (r : ReadPart). lies_in n shard r.name) p.reads all in
+    let writes = all_kept (λ (w : WritePart). lies_in n shard w.name) p.writes (writes_lie n shard p.reads p.writes all h.writes_read) in
+    let some : ((length p.reads == 0) && (length p.ranges == 0)) ≡ false = grind (arith, nat_tests) in
+    rw (reads, writes, some) refl
 
 -- ---- the shards of a payload
 

@@ -11,7 +11,10 @@ pub mod RowFaults
 pub mod Setups
 pub mod SetupFaults
 pub mod Messages
+pub mod Kinds
+pub mod Versions
 pub mod Events
+pub mod Runs
 pub mod PayloadText
 pub mod Words
 pub mod Texts

@@ -1,13 +1,13 @@
 -- Why parts are no payload: the first fault, with its place. Places count through from 1: the reads, the ranges, the writes.
-use Rattle.std.specs.Prelude.{ℕ, ◌+◌, ◌||◌, ◌&&◌, not, nat_lt, ◌==◌, if◌then◌else◌, List, [], ◌∷◌, length, Option, Some, None}
+use Rattle.std.specs.Prelude.{◌≡◌, ℕ, ◌+◌, ◌||◌, ◌&&◌, not, nat_lt, ◌==◌, if◌then◌else◌, List, [], ◌∷◌, length, Option, Some, None}
 use Rattle.tcs_terms.specs.declared.limits.TheConstants.{MAX_READS, MAX_RANGES, MAX_WRITES}
 use Rattle.tcs_terms.specs.declared.payloads.ReadPart.{ReadPart}
 use Rattle.tcs_terms.specs.declared.payloads.RangePart.{RangePart}
 use Rattle.tcs_terms.specs.declared.payloads.WritePart.{WritePart}
 use Rattle.tcs_terms.specs.declared.faults.BadPayload.{BadPayload}
-use Rattle.tcs_terms.specs.declared.faults.BadPayload.TheVariants.{Empty, TooMany, Version, Order, Unread}
+use Rattle.tcs_terms.specs.declared.faults.BadPayload.TheVariants.{Empty, TooMany, Version, Order, Unread, OutOfMemory}
 use Rattle.tcs_terms.specs.Order.{name_before}
-use Rattle.tcs_terms.specs.Payloads.{Accesses, reads_name}
+use Rattle.tcs_terms.specs.Payloads.{Accesses, reads_name, IsPayload}
 
 -- the first fault of reads, the first of them at this place; each name stands after the one before, and every name
 -- stands after the empty one
@@ -48,3 +48,12 @@ payload_fault p =
     else first_fault (reads_fault p.version 1 [] p.reads)
     (first_fault (ranges_fault p.version (length p.reads + 1) [] p.ranges)
     (writes_fault p.reads (length p.reads + length p.ranges + 1) [] p.writes))
+
+-- what a refusal of parts says: parts that are a payload are refused for want of memory alone
+abbrev pub PayloadRefused : Accesses → BadPayload → Type 0
+PayloadRefused p Empty = payload_fault p ≡ Some Empty
+PayloadRefused p TooMany = payload_fault p ≡ Some TooMany
+PayloadRefused p (Version place) = payload_fault p ≡ Some (Version place)
+PayloadRefused p (Order place) = payload_fault p ≡ Some (Order place)
+PayloadRefused p (Unread place) = payload_fault p ≡ Some (Unread place)
+PayloadRefused p OutOfMemory = IsPayload p

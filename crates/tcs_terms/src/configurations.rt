@@ -5,9 +5,11 @@ ghost use Rattle.std.specs.Prelude.{◌≡◌, ◌↔◌, Some, IsOk, IfOk, IfEr
 use crate::copies::Copied;
 use crate::faults::BadConfig;
 use crate::ids::{Epoch, NodeId, ShardId};
-use crate::limits::MAX_NODES;
+use crate::inline::inline;
+use crate::limits::{MAX_MEMBERS, MAX_NODES};
 use crate::memory::OutOfMemory;
 use crate::places::{is_among, is_epoch, is_shard, may_be_members};
+use arrayvec::ArrayVec;
 use std::alloc::Global;
 use std::marker::Model;
 
@@ -40,12 +42,12 @@ fn config_fault(
 }
 
 /// A configuration of a shard: its epoch, its members, which of them leads, and which node proposed it
-/// (0 for a first one). The members other than the leader are the followers.
+/// (0 for a first one). The members other than the leader are the followers. They lie in the value itself.
 #[derive(Debug, Drop)]
 pub struct Config {
     shard: ShardId,
     epoch: Epoch,
-    members: Vec<NodeId>,
+    members: ArrayVec<NodeId, MAX_MEMBERS>,
     leader: NodeId,
     by: NodeId,
 }
@@ -112,27 +114,48 @@ impl Config {
     {
         match config_fault(shard, epoch, &members, leader, by) {
             Some(fault) => Err(fault),
-            None => Ok(Config {
-                shard,
-                epoch,
-                members,
-                leader,
-                by,
-            }),
+            None => Ok(Config::of(shard, epoch, &members, leader, by)),
+        }
+    }
+
+    /// The configuration of numbers that are one.
+    pub fn of(
+        shard: ShardId,
+        epoch: Epoch,
+        members: &[NodeId],
+        leader: NodeId,
+        by: NodeId,
+    ) -> Config
+        requires { IsMembership (record {
+          shard = shard;
+          epoch = epoch;
+          members = members.now;
+          leader = leader;
+          by = by;
+        }) }
+        ensures { result ≡ record {
+          shard = shard;
+          epoch = epoch;
+          members = members.now;
+          leader = leader;
+          by = by;
+        } }
+    {
+        Config {
+            shard,
+            epoch,
+            members: inline(members),
+            leader,
+            by,
         }
     }
 
     /// Another configuration of the same numbers.
-    pub fn copy(&self, alloc: Global) -> Result<Config, OutOfMemory>
+    pub fn copy(&self, _alloc: Global) -> Result<Config, OutOfMemory>
         ensures { IfOk result (λ c. c ≡ self.now) }
     {
-        Ok(Config {
-            shard: self.shard,
-            epoch: self.epoch,
-            members: Vec::from_slice(alloc, &self.members)?,
-            leader: self.leader,
-            by: self.by,
-        })
+        let members = self.members();
+        Ok(Config::of(self.shard, self.epoch, members, self.leader, self.by))
     }
 
     pub fn shard(&self) -> ShardId

@@ -1,28 +1,44 @@
 //! Which events fit a setup, and which inputs are in range.
 ghost use Rattle.std.specs.Prelude.{◌≡◌, ◌↔◌, IsTrue};
+ghost use Rattle.tcs_terms.specs.Runs.{MayStand};
+ghost use Rattle.tcs_terms.specs.Setups.{IsDeployment, has_node, is_node_of};
 ghost use Rattle.tcs_terms.specs.Events.{has_shard, may_be_of, input_fits, event_fits, InputInRange};
 
-use crate::ids::{ShardId, TxId};
+use crate::ids::{NodeId, ShardId, TxId};
 use crate::inputs::{Event, Input};
 use crate::limits::{MAX_SEQUENCE, MAX_WANTED};
 use crate::order::ascends;
 use crate::places::{are_nodes, is_shard};
-use crate::setup_faults::{are_nodes_of, has_node};
+use crate::setup_faults::{are_nodes_of, has_node, is_node_of};
 use crate::setups::Setup;
 
 impl Setup {
+    /// Whether a number names a node of the setup.
+    pub fn has_node(&self, node: NodeId) -> bool
+        ensures { result ≡ has_node self.now.nodes node }
+    {
+        has_node(self.nodes(), u64::from(node))
+    }
+
+    /// Whether a number names a node of that shard of the setup.
+    pub fn has_node_of(&self, shard: ShardId, node: NodeId) -> bool
+        ensures { result ≡ is_node_of self.now.nodes shard node }
+    {
+        is_node_of(self.nodes(), shard, u64::from(node))
+    }
+
     /// Whether a number names a shard of the setup.
-    fn has_shard(&self, shard: ShardId) -> bool
+    pub fn has_shard(&self, shard: ShardId) -> bool
         ensures { result ≡ has_shard self.now shard }
     {
         1 <= shard && shard <= self.shards()
     }
 
     /// Whether a transaction may be one of a run of the setup.
-    fn may_have(&self, txn: &TxId) -> bool
+    pub fn may_have(&self, txn: &TxId) -> bool
         ensures { result ≡ may_be_of self.now txn.now }
     {
-        has_node(self.nodes(), txn.home) && 1 <= txn.seq && txn.seq <= MAX_SEQUENCE
+        self.has_node(txn.home) && 1 <= txn.seq && txn.seq <= MAX_SEQUENCE
     }
 
     fn fits_input(&self, input: &Input) -> bool
@@ -48,12 +64,16 @@ impl Setup {
     /// from 1 to 1,000,000, a message number is at least 1, a payload with ranges is for version 2, and the input of a
     /// call is not `Deliver`.
     pub fn fits(&self, event: &Event) -> bool
-        ensures { result ≡ event_fits self.now event.now }
+        ensures fits { result ≡ event_fits self.now event.now }
+        ensures stands { IsTrue result → MayStand self.now event.now }
+        ensures setup { IsDeployment self.now }
     {
+        let _shards = self.shards();
+        event.promise();
         match event {
-            Event::Call { node, input } => has_node(self.nodes(), *node) && self.fits_input(input),
+            Event::Call { node, input } => self.has_node(*node) && self.fits_input(input),
             Event::DeliverNumber(number) => *number >= 1,
-            Event::Stop(node) => has_node(self.nodes(), *node),
+            Event::Stop(node) => self.has_node(*node),
         }
     }
 }

@@ -55,6 +55,8 @@ pub enum BadPayload {
     /// The write of that place is of an object that is not read by name.
     #[error("part {0} is a write of what is not read")]
     Unread(u8),
+    #[error("out of memory")]
+    OutOfMemory,
 }
 
 /// The list has no shard, or more than 16, or leaves 1 to 16, or does not strictly ascend.

@@ -1,4 +1,5 @@
 //! Every limit of the service, named once. All of them are this project's own.
+ghost use Rattle.std.specs.Prelude.{◌≡◌};
 
 /// Shards are numbered from 1 to this.
 pub const MAX_SHARDS: u8 = 16;
@@ -30,3 +31,22 @@ pub const MAX_PIECES: u16 = 171;
 pub const MAX_PIECE_ROWS: usize = 24;
 /// The kinds of messages are numbered from 1 to this.
 pub const MAX_KIND: u8 = 17;
+
+/// Each limit is this number.
+pub fn limits_are()
+    ensures shards { MAX_SHARDS ≡ 16 }
+    ensures nodes { MAX_NODES ≡ 64 }
+    ensures members { MAX_MEMBERS ≡ 7 }
+    ensures wanted { MAX_WANTED ≡ 6 }
+    ensures reads { MAX_READS ≡ 16 }
+    ensures ranges { MAX_RANGES ≡ 3 }
+    ensures writes { MAX_WRITES ≡ 16 }
+    ensures name { MAX_NAME ≡ 32 }
+    ensures value { MAX_VALUE ≡ 64 }
+    ensures slot { MAX_SLOT ≡ 4096 }
+    ensures epoch { MAX_EPOCH ≡ 1000000 }
+    ensures sequence { MAX_SEQUENCE ≡ 1000000 }
+    ensures pieces { MAX_PIECES ≡ 171 }
+    ensures piece_rows { MAX_PIECE_ROWS ≡ 24 }
+    ensures kind { MAX_KIND ≡ 17 }
+{}

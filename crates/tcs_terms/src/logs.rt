@@ -129,6 +129,22 @@ impl Rows {
         }
     }
 
+    /// The rows of a list that may stand in a log.
+    pub fn of(list: Vec<Row>) -> Rows
+        requires { AreRows list.items }
+        ensures { result ≡ list.items }
+    {
+        Rows { list }
+    }
+
+    /// The list of the rows, slots ascending.
+    pub fn into_list(self) -> Vec<Row>
+        ensures list { result.items ≡ self }
+        ensures rows { AreRows self }
+    {
+        self.list
+    }
+
     /// The same rows again.
     pub fn copy(&self, alloc: Global) -> Result<Rows, OutOfMemory>
         ensures { IfOk result (λ c. c ≡ self.now) }

@@ -4,20 +4,22 @@ ghost use Rattle.tcs_terms.specs.ObjectFaults.{name_fault};
 ghost use Rattle.std.specs.Prelude.{◌≡◌, not, position, IfOk, IfErr, OnOk};
 
 use crate::faults::{NameFault, ValueFault};
+use crate::inline::inline;
 use crate::limits::{MAX_NAME, MAX_VALUE};
 use crate::memory::OutOfMemory;
+use arrayvec::ArrayVec;
 use std::alloc::Global;
 use std::marker::Model;
 
-/// Whether a byte may stand in a name.
-fn is_name_byte(byte: u8) -> bool
+/// Whether a byte may stand in a name: `a` to `z`, `0` to `9` and `_`.
+pub fn is_name_byte(byte: u8) -> bool
     ensures { result ≡ is_name_byte byte }
 {
     matches!(byte, b'a'..=b'z' | b'0'..=b'9' | b'_')
 }
 
-/// The place of the first byte that may not stand in a name.
-fn strange_byte(bytes: &[u8]) -> Option<usize>
+/// The place, from 0, of the first byte that may not stand in a name.
+pub fn strange_byte(bytes: &[u8]) -> Option<usize>
     ensures { result ≡ position (λ b. not (is_name_byte b)) bytes.now }
 {
     bytes.iter().position(|byte| !is_name_byte(*byte))
@@ -34,10 +36,11 @@ fn name_fault(bytes: &[u8]) -> Option<usize>
     }
 }
 
-/// The name of an object: 1 to 32 bytes of `a` to `z`, `0` to `9` and `_`. Seen as the list of its bytes.
+/// The name of an object: 1 to 32 bytes of `a` to `z`, `0` to `9` and `_`, which lie in the value itself. Seen as the
+/// list of its bytes.
 #[derive(Debug, Drop)]
 pub struct Name {
-    bytes: Vec<u8>,
+    bytes: ArrayVec<u8, MAX_NAME>,
 }
 
 impl Model for Name {
@@ -61,26 +64,32 @@ impl Name {
     /// `Bad` with the length, where there are no bytes or more than 32, else with the place of the first byte outside
     /// the alphabet.
     #[tactic(auto, using(crate::proofs::NameLaws::is_name_without_fault))]
-    pub fn build(alloc: Global, bytes: &[u8]) -> Result<Name, NameFault>
+    pub fn build(_alloc: Global, bytes: &[u8]) -> Result<Name, NameFault>
         ensures ok { OnOk result (IsName bytes.now) }
         ensures value { IfOk result (λ n. n ≡ bytes.now) }
         ensures refusal { IfErr result (NameRefused bytes.now) }
     {
         match name_fault(bytes) {
             Some(place) => Err(NameFault::Bad(place)),
-            None => Ok(Name {
-                bytes: Vec::from_slice(alloc, bytes)?,
-            }),
+            None => Ok(Name::of(bytes)),
+        }
+    }
+
+    /// The name of bytes that are one.
+    pub fn of(bytes: &[u8]) -> Name
+        requires { IsName bytes.now }
+        ensures { result ≡ bytes.now }
+    {
+        Name {
+            bytes: inline(bytes),
         }
     }
 
     /// Another name of the same bytes.
-    pub fn copy(&self, alloc: Global) -> Result<Name, OutOfMemory>
+    pub fn copy(&self, _alloc: Global) -> Result<Name, OutOfMemory>
         ensures { IfOk result (λ n. n ≡ self.now) }
     {
-        Ok(Name {
-            bytes: Vec::from_slice(alloc, &self.bytes)?,
-        })
+        Ok(Name::of(self.bytes()))
     }
 
     /// The bytes of the name.
@@ -92,10 +101,10 @@ impl Name {
     }
 }
 
-/// The value of an object: 0 to 64 bytes. Seen as the list of its bytes.
+/// The value of an object: 0 to 64 bytes, which lie in the value itself. Seen as the list of its bytes.
 #[derive(Debug, Drop)]
 pub struct Value {
-    bytes: Vec<u8>,
+    bytes: ArrayVec<u8, MAX_VALUE>,
 }
 
 impl Model for Value {
@@ -117,7 +126,7 @@ impl Value {
     ///
     /// # Errors
     /// `TooLong` with the length, where it is above 64.
-    pub fn build(alloc: Global, bytes: &[u8]) -> Result<Value, ValueFault>
+    pub fn build(_alloc: Global, bytes: &[u8]) -> Result<Value, ValueFault>
         ensures ok { OnOk result (IsValue bytes.now) }
         ensures value { IfOk result (λ v. v ≡ bytes.now) }
         ensures refusal { IfErr result (ValueRefused bytes.now) }
@@ -125,26 +134,24 @@ impl Value {
         if bytes.len() > MAX_VALUE {
             return Err(ValueFault::TooLong(bytes.len()));
         }
-        Ok(Value {
-            bytes: Vec::from_slice(alloc, bytes)?,
-        })
+        Ok(Value::of(bytes))
     }
 
     /// The value of bytes that are few enough.
-    pub(crate) fn of(bytes: Vec<u8>) -> Value
-        requires { IsValue bytes.items }
-        ensures { result ≡ bytes.items }
+    pub fn of(bytes: &[u8]) -> Value
+        requires { IsValue bytes.now }
+        ensures { result ≡ bytes.now }
     {
-        Value { bytes }
+        Value {
+            bytes: inline(bytes),
+        }
     }
 
     /// Another value of the same bytes.
-    pub fn copy(&self, alloc: Global) -> Result<Value, OutOfMemory>
+    pub fn copy(&self, _alloc: Global) -> Result<Value, OutOfMemory>
         ensures { IfOk result (λ v. v ≡ self.now) }
     {
-        Ok(Value {
-            bytes: Vec::from_slice(alloc, &self.bytes)?,
-        })
+        Ok(Value::of(self.bytes()))
     }
 
     /// The bytes of the value.

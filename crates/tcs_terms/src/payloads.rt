@@ -1,5 +1,5 @@
 //! Payloads: what a transaction read and what it wants to write.
-ghost use Rattle.std.specs.Prelude.{◌≡◌, ◌↔◌, [], Some, IsOk, IfOk, IfErr};
+ghost use Rattle.std.specs.Prelude.{◌≡◌, [], IfOk, IfErr, OnOk};
 
 use crate::copies::{Copied, copy_all};
 use crate::faults::BadPayload;
@@ -8,6 +8,7 @@ use crate::objects::{Name, Value};
 use crate::payload_faults::payload_fault;
 use std::alloc::Global;
 use std::marker::Model;
+use std::rc::Rc;
 
 /// An object that was read by name, and the version that was seen: 0 where the object was absent.
 #[derive(Debug, Drop)]
@@ -32,33 +33,40 @@ pub struct WritePart {
     pub value: Value,
 }
 
-/// What a transaction read, what it wants to write, and the version that its writes are to have.
-/// Well formed by its type: see `specs/Payloads.antt`.
+/// The parts of a payload.
 #[derive(Debug, Drop)]
-pub struct Payload {
+struct Parts {
     reads: Vec<ReadPart>,
     ranges: Vec<RangePart>,
     writes: Vec<WritePart>,
     version: u64,
 }
 
+/// What a transaction read, what it wants to write, and the version that its writes are to have.
+/// Well formed by its type: see `specs/Payloads.antt`. Copies share their parts.
+#[derive(Debug, Drop)]
+pub struct Payload {
+    parts: Rc<Parts>,
+}
+
 impl Model for Payload {
+    ghost use Rattle.std.specs.Rc.{rc_value};
     ghost use Rattle.tcs_terms.specs.Payloads.{Accesses, IsPayload};
 
     ghost Value = { Accesses };
 
     ghost view = { λ p. record {
-      reads = p.reads.items;
-      ranges = p.ranges.items;
-      writes = p.writes.items;
-      version = p.version;
+      reads = (rc_value p.parts).reads.items;
+      ranges = (rc_value p.parts).ranges.items;
+      writes = (rc_value p.parts).writes.items;
+      version = (rc_value p.parts).version;
     } };
 
     ghost invariant = { λ p. IsPayload (record {
-      reads = p.reads.items;
-      ranges = p.ranges.items;
-      writes = p.writes.items;
-      version = p.version;
+      reads = (rc_value p.parts).reads.items;
+      ranges = (rc_value p.parts).ranges.items;
+      writes = (rc_value p.parts).writes.items;
+      version = (rc_value p.parts).version;
     }) };
 }
 
@@ -116,7 +124,8 @@ impl Copied for WritePart {
 
 impl Payload {
     ghost use Rattle.tcs_terms.specs.Payloads.{IsPayload};
-    ghost use Rattle.tcs_terms.specs.PayloadFaults.{payload_fault};
+    ghost use Rattle.tcs_terms.specs.PayloadFaults.{PayloadRefused};
+    ghost use Rattle.tcs_terms.specs.declared.faults.BadPayload.TheVariants as faults;
 
     /// The payload of these parts, which reads no range.
     ///
@@ -128,24 +137,24 @@ impl Payload {
         writes: Vec<WritePart>,
         version: u64,
     ) -> Result<Payload, BadPayload>
-        ensures ok { IsOk result ↔ IsPayload (record {
+        ensures ok { OnOk result (IsPayload (record {
           reads = reads.items;
           ranges = [];
           writes = writes.items;
           version = version;
-        }) }
+        })) }
         ensures value { IfOk result (λ p. p ≡ record {
           reads = reads.items;
           ranges = [];
           writes = writes.items;
           version = version;
         }) }
-        ensures refusal { IfErr result (λ fault. payload_fault (record {
+        ensures refusal { IfErr result (PayloadRefused (record {
           reads = reads.items;
           ranges = [];
           writes = writes.items;
           version = version;
-        }) ≡ Some fault) }
+        })) }
     {
         let ranges = Vec::new(*reads.allocator());
         Payload::build_ranges(reads, ranges, writes, version)
@@ -162,7 +171,39 @@ impl Payload {
         writes: Vec<WritePart>,
         version: u64,
     ) -> Result<Payload, BadPayload>
-        ensures ok { IsOk result ↔ IsPayload (record {
+        ensures ok { OnOk result (IsPayload (record {
+          reads = reads.items;
+          ranges = ranges.items;
+          writes = writes.items;
+          version = version;
+        })) }
+        ensures value { IfOk result (λ p. p ≡ record {
+          reads = reads.items;
+          ranges = ranges.items;
+          writes = writes.items;
+          version = version;
+        }) }
+        ensures refusal { IfErr result (PayloadRefused (record {
+          reads = reads.items;
+          ranges = ranges.items;
+          writes = writes.items;
+          version = version;
+        })) }
+    {
+        match payload_fault(&reads, &ranges, &writes, version) {
+            Some(fault) => Err(fault),
+            None => Payload::kept(reads, ranges, writes, version),
+        }
+    }
+
+    /// The payload of parts that are one, as a builder answers it.
+    fn kept(
+        reads: Vec<ReadPart>,
+        ranges: Vec<RangePart>,
+        writes: Vec<WritePart>,
+        version: u64,
+    ) -> Result<Payload, BadPayload>
+        requires { IsPayload (record {
           reads = reads.items;
           ranges = ranges.items;
           writes = writes.items;
@@ -174,61 +215,52 @@ impl Payload {
           writes = writes.items;
           version = version;
         }) }
-        ensures refusal { IfErr result (λ fault. payload_fault (record {
-          reads = reads.items;
-          ranges = ranges.items;
-          writes = writes.items;
-          version = version;
-        }) ≡ Some fault) }
+        ensures memory { IfErr result (λ e. e ≡ faults.OutOfMemory) }
     {
-        match payload_fault(&reads, &ranges, &writes, version) {
-            Some(fault) => Err(fault),
-            None => Ok(Payload {
-                reads,
-                ranges,
-                writes,
-                version,
-            }),
+        match Payload::of(reads, ranges, writes, version) {
+            Ok(payload) => Ok(payload),
+            Err(OutOfMemory) => Err(BadPayload::OutOfMemory),
         }
     }
 
     /// The payload of parts that are one.
-    pub(crate) fn of(
+    pub fn of(
         reads: Vec<ReadPart>,
         ranges: Vec<RangePart>,
         writes: Vec<WritePart>,
         version: u64,
-    ) -> Payload
+    ) -> Result<Payload, OutOfMemory>
         requires { IsPayload (record {
           reads = reads.items;
           ranges = ranges.items;
           writes = writes.items;
           version = version;
         }) }
-        ensures { result ≡ record {
+        ensures { IfOk result (λ p. p ≡ record {
           reads = reads.items;
           ranges = ranges.items;
           writes = writes.items;
           version = version;
-        } }
+        }) }
     {
-        Payload {
+        let alloc = *reads.allocator();
+        let parts = Parts {
             reads,
             ranges,
             writes,
             version,
-        }
+        };
+        Ok(Payload {
+            parts: Rc::new(alloc, parts)?,
+        })
     }
 
-    /// Another payload of the same parts.
-    pub fn copy(&self, alloc: Global) -> Result<Payload, OutOfMemory>
+    /// Another payload of the same parts, which it shares: it takes no memory.
+    pub fn copy(&self, _alloc: Global) -> Result<Payload, OutOfMemory>
         ensures { IfOk result (λ c. c ≡ self.now) }
     {
         Ok(Payload {
-            reads: copy_all(alloc, &self.reads)?,
-            ranges: copy_all(alloc, &self.ranges)?,
-            writes: copy_all(alloc, &self.writes)?,
-            version: self.version,
+            parts: self.parts.clone()?,
         })
     }
 
@@ -237,7 +269,7 @@ impl Payload {
         ensures reads { result.now ≡ self.now.reads }
         ensures payload { IsPayload self.now }
     {
-        self.reads.as_slice()
+        self.parts.reads.as_slice()
     }
 
     /// The ranges that were read, ascending and apart.
@@ -245,7 +277,7 @@ impl Payload {
         ensures ranges { result.now ≡ self.now.ranges }
         ensures payload { IsPayload self.now }
     {
-        self.ranges.as_slice()
+        self.parts.ranges.as_slice()
     }
 
     /// The objects that are to be written, names ascending.
@@ -253,7 +285,7 @@ impl Payload {
         ensures writes { result.now ≡ self.now.writes }
         ensures payload { IsPayload self.now }
     {
-        self.writes.as_slice()
+        self.parts.writes.as_slice()
     }
 
     /// The commit version: the version that the writes are to have, at least 1.
@@ -261,7 +293,7 @@ impl Payload {
         ensures version { result ≡ self.now.version }
         ensures payload { IsPayload self.now }
     {
-        self.version
+        self.parts.version
     }
 }
 

@@ -1,10 +1,12 @@
 //! The payload that words spell.
-ghost use Rattle.std.specs.Prelude.{◌≡◌, ◌==◌, ◌||◌, IsTrue, Ok, IfOk};
+ghost use Rattle.std.specs.Prelude.{◌≡◌, ◌==◌, ◌||◌, IsTrue, Ok, IfOk, IfErr};
+ghost use Rattle.tcs_terms.specs.declared.words.WordFault.TheVariants as faults;
 ghost use Rattle.tcs_terms.specs.Payloads.{Accesses, IsPayload};
 ghost use Rattle.tcs_terms.specs.PayloadText.{payload_text};
 ghost use Rattle.tcs_terms.specs.PayloadWords.{FitsVersion, Gives, Tells, Reads, reading, read_at, range_at, write_at, reads_at, ranges_at, ranges_in, writes_at, some_read, all_read, payload_at, last_read, last_end, last_write};
 
 use crate::limits::{MAX_RANGES, MAX_READS, MAX_WRITES};
+use crate::memory::OutOfMemory;
 use crate::payload_faults::reads_nothing;
 use crate::payloads::{Payload, RangePart, ReadPart, WritePart};
 use crate::word_list::WordList;
@@ -194,7 +196,7 @@ pub fn read_payload(alloc: Global, text: &[u8], version: u8) -> Result<Payload, 
     let mut words = WordList::of(text);
     let count = words.left();
     match parts_at(alloc, version, &mut words) {
-        Ok(parts) => Ok(parts.into_payload()),
+        Ok(parts) => parts.into_payload(),
         Err(Stop::OutOfMemory) => Err(WordFault::OutOfMemory),
         Err(Stop::Misfit { left, reason }) => Err(WordFault::Bad {
             word: (count + 1).saturating_sub(left),
@@ -214,21 +216,25 @@ struct Parts {
 
 impl Parts {
     /// The payload of parts that are one.
-    fn into_payload(self) -> Payload
+    fn into_payload(self) -> Result<Payload, WordFault>
         requires { IsPayload (record {
           reads = self.reads.items;
           ranges = self.ranges.items;
           writes = self.writes.items;
           version = self.version;
         }) }
-        ensures { result ≡ record {
+        ensures value { IfOk result (λ p. p ≡ record {
           reads = self.reads.items;
           ranges = self.ranges.items;
           writes = self.writes.items;
           version = self.version;
-        } }
+        }) }
+        ensures memory { IfErr result (λ e. e ≡ faults.OutOfMemory) }
     {
-        Payload::of(self.reads, self.ranges, self.writes, self.version)
+        match Payload::of(self.reads, self.ranges, self.writes, self.version) {
+            Ok(payload) => Ok(payload),
+            Err(OutOfMemory) => Err(WordFault::OutOfMemory),
+        }
     }
 }
 

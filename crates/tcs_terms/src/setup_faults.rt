@@ -11,15 +11,15 @@ use crate::ids::{NodeId, ShardId};
 use crate::limits::{MAX_NODES, MAX_SHARDS};
 use crate::setups::Rule;
 
-/// Whether a number names a node.
-pub(crate) fn has_node(nodes: &[ShardId], node: NodeId) -> bool
+/// Whether a number names a node, where these are the shards of the nodes.
+pub fn has_node(nodes: &[ShardId], node: u64) -> bool
     ensures { result ≡ has_node nodes.now node }
 {
-    1 <= node && node as usize <= nodes.len()
+    1 <= node && node <= nodes.len() as u64
 }
 
-/// Whether a number names a node of the shard.
-pub(crate) fn is_node_of(nodes: &[ShardId], shard: ShardId, node: NodeId) -> bool
+/// Whether a number names a node of the shard, where these are the shards of the nodes.
+pub fn is_node_of(nodes: &[ShardId], shard: ShardId, node: u64) -> bool
     ensures { result ≡ is_node_of nodes.now shard node }
 {
     has_node(nodes, node) && nodes[node as usize - 1] == shard
@@ -29,7 +29,8 @@ pub(crate) fn is_node_of(nodes: &[ShardId], shard: ShardId, node: NodeId) -> boo
 pub(crate) fn are_nodes_of(nodes: &[ShardId], shard: ShardId, list: &[NodeId]) -> bool
     ensures { result ≡ list_all (is_node_of nodes.now shard) list.now }
 {
-    list.iter().all(|node| is_node_of(nodes, shard, *node))
+    list.iter()
+        .all(|node| is_node_of(nodes, shard, u64::from(*node)))
 }
 
 /// Whether a configuration is a first one.

@@ -7,6 +7,7 @@ use crate::faults::BadSetup;
 use crate::ids::ShardId;
 use crate::memory::OutOfMemory;
 use crate::setup_faults::setup_fault;
+use crate::versions::Version;
 use std::alloc::Global;
 use std::marker::Model;
 
@@ -55,6 +56,7 @@ impl Model for Setup {
 impl Setup {
     ghost use Rattle.tcs_terms.specs.Setups.{IsDeployment};
     ghost use Rattle.tcs_terms.specs.SetupFaults.{setup_fault};
+    ghost use Rattle.tcs_terms.specs.Versions.{version_number};
 
     /// The setup of these parts, of version 1.
     ///
@@ -152,12 +154,31 @@ impl Setup {
         })
     }
 
+    /// Copies of the first configurations, shard 1 first.
+    pub fn copy_configs(&self, alloc: Global) -> Result<Vec<Config>, OutOfMemory>
+        ensures configs { IfOk result (λ v. v.items ≡ self.now.configs) }
+        ensures setup { IsDeployment self.now }
+    {
+        copy_all(alloc, &self.configs)
+    }
+
     /// The version of the protocol: 1, or 2 with state in pieces and range reads.
     pub fn version(&self) -> u8
         ensures version { result ≡ self.now.version }
         ensures setup { IsDeployment self.now }
     {
         self.version
+    }
+
+    /// The version of the protocol, as a type.
+    pub fn protocol(&self) -> Version
+        ensures version { version_number result ≡ self.now.version }
+        ensures setup { IsDeployment self.now }
+    {
+        match self.version {
+            2 => Version::Two,
+            _ => Version::One,
+        }
     }
 
     pub fn rule(&self) -> Rule

@@ -3,16 +3,23 @@ ghost use Rattle.std.specs.Prelude.{◌≡◌, ◌↔◌, IsOk, IfOk};
 
 use crate::faults::BadShards;
 use crate::ids::ShardId;
+use crate::inline::inline;
+use crate::limits::MAX_SHARDS;
 use crate::memory::OutOfMemory;
 use crate::order::ascends;
 use crate::places::are_shards;
+use arrayvec::ArrayVec;
 use std::alloc::Global;
 use std::marker::Model;
 
-/// The shards of a transaction: 1 to 16 of them. Seen as the ascending list of their numbers.
+/// A set has at most all shards.
+const SET_ROOM: usize = MAX_SHARDS as usize;
+
+/// The shards of a transaction: 1 to 16 of them, which lie in the value itself. Seen as the ascending list of their
+/// numbers.
 #[derive(Debug, Drop)]
 pub struct ShardSet {
-    list: Vec<ShardId>,
+    list: ArrayVec<ShardId, SET_ROOM>,
 }
 
 impl Model for ShardSet {
@@ -40,24 +47,23 @@ impl ShardSet {
         if list.is_empty() || !are_shards(&list) || !ascends(&list) {
             return Err(BadShards);
         }
-        Ok(ShardSet { list })
+        Ok(ShardSet::of(&list))
     }
 
     /// The set of shards that are one.
-    pub(crate) fn of(list: Vec<ShardId>) -> ShardSet
-        requires { IsShardSet list.items }
-        ensures { result ≡ list.items }
+    #[tactic(auto, using(crate::proofs::PlaceLaws::few_shards))]
+    pub fn of(list: &[ShardId]) -> ShardSet
+        requires { IsShardSet list.now }
+        ensures { result ≡ list.now }
     {
-        ShardSet { list }
+        ShardSet { list: inline(list) }
     }
 
     /// Another set of the same shards.
-    pub fn copy(&self, alloc: Global) -> Result<ShardSet, OutOfMemory>
+    pub fn copy(&self, _alloc: Global) -> Result<ShardSet, OutOfMemory>
         ensures { IfOk result (λ c. c ≡ self.now) }
     {
-        Ok(ShardSet {
-            list: Vec::from_slice(alloc, &self.list)?,
-        })
+        Ok(ShardSet::of(self.list()))
     }
 
     /// The shards, ascending.

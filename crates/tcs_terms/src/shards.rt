@@ -1,6 +1,6 @@
 //! Which shard an object lies in, the shards of a payload, and its part in a shard.
 ghost use Rattle.std.specs.Prelude.{◌≡◌, ◌+◌, ◌≤◌, ◌<◌, ◌&&◌, nat_le, filter, length, sum, IsTrue, IfOk};
-ghost use Rattle.std.specs.List.{list_any, range_with_len};
+ghost use Rattle.std.specs.List.{list_all, list_any, range_with_len};
 ghost use Rattle.tcs_terms.specs.Payloads.{IsPayload};
 ghost use Rattle.tcs_terms.specs.Shards.{shard_of, lies_in, restricted, shards_of};
 
@@ -134,6 +134,14 @@ fn shard_list(alloc: Global, payload: &Payload, n: u8) -> Result<Vec<ShardId>, O
     all_shards(alloc, n)
 }
 
+/// Whether every object that is read by name lies in the shard.
+fn all_lie_in(reads: &[ReadPart], shard: ShardId, n: u8) -> bool
+    requires { 1 ≤ n }
+    ensures { result ≡ list_all (λ r. lies_in n shard r.name) reads.now }
+{
+    reads.iter().all(|read| read_lies_in(read, shard, n))
+}
+
 impl Payload {
     /// The shards of the payload, of `n` shards (1 to 16): those of its reads, or all where it has a range.
     pub fn shards(&self, alloc: Global, n: u8) -> Result<ShardSet, OutOfMemory>
@@ -142,11 +150,12 @@ impl Payload {
         ensures { IfOk result (λ shards. shards ≡ shards_of n self.now) }
     {
         let list = shard_list(alloc, self, n)?;
-        Ok(ShardSet::of(list))
+        Ok(ShardSet::of(&list))
     }
 
     /// The part of the payload in a shard, of `n` shards (1 to 16): its reads and writes of objects of the shard, all
-    /// ranges and the commit version. There is none where no read is in the shard and there is no range.
+    /// ranges and the commit version. There is none where no read is in the shard and there is no range. Where the shard
+    /// holds all of it, the part is a copy and takes no memory.
     pub fn restrict(
         &self,
         alloc: Global,
@@ -157,13 +166,19 @@ impl Payload {
         requires few { n ≤ MAX_SHARDS }
         ensures { IfOk result (λ part. part ≡ restricted n shard self.now) }
     {
+        let all_reads = self.reads();
+        // Each written object is read too, so that the shard holds all of the payload.
+        if all_lie_in(all_reads, shard, n) {
+            return Ok(Some(self.copy(alloc)?));
+        }
         let all_ranges = self.ranges();
-        let reads = reads_in(alloc, self.reads(), shard, n)?;
+        let reads = reads_in(alloc, all_reads, shard, n)?;
         if reads_nothing(&reads, all_ranges) {
             return Ok(None);
         }
         let ranges = copy_all(alloc, all_ranges)?;
         let writes = writes_in(alloc, self.writes(), shard, n)?;
-        Ok(Some(Payload::of(reads, ranges, writes, self.version())))
+        let part = Payload::of(reads, ranges, writes, self.version())?;
+        Ok(Some(part))
     }
 }

@@ -161,7 +161,7 @@ fn decoded(alloc: Global, word: &[u8], left: usize) -> Result<Value, Stop>
     ensures { Gives (λ v. v) result (value_or (result_ok (decode_of word.now)) left) }
 {
     match hex::decode(alloc, word) {
-        Ok(bytes) => Ok(Value::of(bytes)),
+        Ok(bytes) => Ok(Value::of(&bytes)),
         Err(FromHexError::OutOfMemory) => Err(Stop::OutOfMemory),
         Err(_) => misfit(left, Reason::Word),
     }
@@ -172,7 +172,7 @@ fn value_in(alloc: Global, word: &[u8], left: usize) -> Result<Value, Stop>
     ensures { Gives (λ v. v) result (value_or (value_in word.now) left) }
 {
     if word == b"-".as_slice() {
-        return Ok(Value::of(Vec::new(alloc)));
+        return Ok(Value::of(b""));
     }
     if word.is_empty() || word.len() > MAX_VALUE + MAX_VALUE || !are_lower_digits(word) {
         return misfit(left, Reason::Word);

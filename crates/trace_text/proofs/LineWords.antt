@@ -1,5 +1,5 @@
 -- Lines: what is read is spelled so and may stand there, and what may stand there is read from its text.
-use Rattle.std.proofs.Common.{◌≡◌, inl, inr, ℕ, ◌+◌, ◌^◌, ◌<◌, ◌≤◌, Bool, true, ◌&&◌, List, ◌∷◌, ◌++◌, Some, refl, sym, ap, subst, ◌∙◌, append_assoc, arith}
+use Rattle.std.proofs.Common.{◌≡◌, ℕ, ◌+◌, ◌^◌, ◌<◌, ◌≤◌, Bool, true, false, cond, ◌&&◌, List, ◌∷◌, ◌++◌, Some, refl, sym, ap, subst, ◌∙◌, append_assoc, arith}
 use Rattle.std.specs.Prelude.{◌==◌, nat_le, codes, decimal}
 use Rattle.std.proofs.lemmas.Bool.{eqb-true, eq-eqb}
 use Rattle.std.proofs.lemmas.Bool.Decides.{nat_tests}
@@ -12,10 +12,13 @@ use Rattle.tcs_terms.specs.PayloadWords.{number_in}
 use Rattle.tcs_terms.proofs.BoolLaws.{both, left_of, right_of}
 use Rattle.tcs_terms.specs.Texts.{rule_text, rule_in}
 use Rattle.trace_text.specs.Texts.{result_text, note_text, order_text}
-use Rattle.trace_text.specs.Lines.{Line, HeadLine, EventLine, NoteLine, MessageLine, OrderLine, EndLine, line_text, Standing, IsStanding, MayStand, is_start, is_within, is_event, has_event, is_ordered}
+use Rattle.trace_text.specs.Lines.{Line, HeadLine, EventLine, NoteLine, MessageLine, OrderLine, EndLine, line_text, Standing, IsStanding, MayStand}
 use Rattle.trace_text.specs.Words.{cut, is_word, number_within, next_number}
-use Rattle.trace_text.specs.Readings.{Ends, result_in, note_in, frame_in, head_of, event_of, note_of, ends_of, message_of, order_in, order_of, end_of, line_of, line_in}
-use Rattle.trace_text.proofs.Steps.{bind_some, some_is, kept, either}
+use Rattle.trace_text.specs.Readings.{Ends, result_in, note_in, frame_in, head_of, event_of, note_of, ends_of, message_of, order_in, order_of, end_of, line_as, line_of, line_in}
+use Rattle.trace_text.specs.declared.stages.LineForm.{LineForm}
+use Rattle.trace_text.specs.declared.stages.LineForm.TheVariants as forms
+use Rattle.trace_text.specs.Stages.{allows, form_of}
+use Rattle.trace_text.proofs.Steps.{bind_some, some_is, kept, taken}
 use Rattle.trace_text.proofs.Cuts.{lacks, cut_takes, cut_again}
 use Rattle.trace_text.proofs.PlainWords.{word_is, decimal_lacks, rule_lacks, within_takes, within_again, small_within, next_takes, next_again}
 use Rattle.tcs_terms.proofs.WordReadings.{number_in_takes, number_in_again}
@@ -47,7 +50,7 @@ record Read (s : Standing) (word text : List ℕ) (line : Line) : Type 0 where
   stands : MayStand s line
   spelled : word ++ 32 ∷ text ≡ line_text line
 
-head_takes : (s : Standing) (text : List ℕ) (line : Line) → is_start s.stage ≡ true → head_of s text ≡ Some line → Read s (codes "trace") text line
+head_takes : (s : Standing) (text : List ℕ) (line : Line) → allows s.stage forms.Head ≡ true → head_of s text ≡ Some line → Read s (codes "trace") text line
 unfolding head_of
 head_takes s text line stage h =
     let words = bind_some (cut 32 text) _ line h in
@@ -66,7 +69,7 @@ head_takes s text line stage h =
           (o.whole ∙ ap (λ (x : List ℕ). x ++ 32 ∷ others.0.1) r ∙ ap (λ (x : List ℕ). rule_text rule.0 ++ 32 ∷ x) n.spelled)) ∙ sym (head_parts version.0 rule.0 shards.0);
     })
 
-event_takes : (s : Standing) (text : List ℕ) (line : Line) → is_within s.stage ≡ true → event_of s text ≡ Some line → Read s (codes "e") text line
+event_takes : (s : Standing) (text : List ℕ) (line : Line) → allows s.stage forms.Event ≡ true → event_of s text ≡ Some line → Read s (codes "e") text line
 unfolding event_of
 event_takes s text line stage h =
     let words = bind_some (cut 32 text) _ line h in
@@ -116,7 +119,7 @@ ends_takes count text e h =
       to = at_most to.0 MAX_NODES t.fits;
     })
 
-message_takes : (s : Standing) (text : List ℕ) (line : Line) → has_event s.stage ≡ true → message_of s text ≡ Some line → Read s (codes "m") text line
+message_takes : (s : Standing) (text : List ℕ) (line : Line) → allows s.stage forms.Message ≡ true → message_of s text ≡ Some line → Read s (codes "m") text line
 unfolding message_of
 message_takes s text line stage h =
     let ends = bind_some (ends_of s.messages text) _ line h in
@@ -129,7 +132,7 @@ message_takes s text line stage h =
           ∙ sym (message_parts ends.0.number ends.0.from ends.0.to frame.0);
     })
 
-order_line_takes : (s : Standing) (text : List ℕ) (line : Line) → is_within s.stage ≡ true → order_of text ≡ Some line → Read s (codes "order") text line
+order_line_takes : (s : Standing) (text : List ℕ) (line : Line) → allows s.stage forms.Order ≡ true → order_of text ≡ Some line → Read s (codes "order") text line
 unfolding order_of
 order_line_takes s text line stage h =
     let order = bind_some (order_in text) _ line h in
@@ -139,7 +142,7 @@ order_line_takes s text line stage h =
       spelled = ap (λ (x : List ℕ). codes "order" ++ 32 ∷ x) o.0;
     })
 
-end_takes : (s : Standing) (text : List ℕ) (line : Line) → is_ordered s.stage ≡ true → end_of s text ≡ Some line → Read s (codes "end") text line
+end_takes : (s : Standing) (text : List ℕ) (line : Line) → allows s.stage forms.End ≡ true → end_of s text ≡ Some line → Read s (codes "end") text line
 unfolding end_of
 end_takes s text line stage h =
     let words = bind_some (cut 32 text) _ line h in
@@ -156,7 +159,7 @@ end_takes s text line stage h =
       spelled = ap (λ (z : List ℕ). codes "end" ++ 32 ∷ z) (c.whole ∙ ap (λ (z : List ℕ). z ++ 32 ∷ words.0.1) x.0 ∙ ap (λ (z : List ℕ). decimal events.0 ++ 32 ∷ z) y.0) ∙ sym (end_parts events.0 messages.0);
     })
 
-note_line_takes : (s : Standing) (word text : List ℕ) (line : Line) → is_event s.stage ≡ true → note_of s word text ≡ Some line → Read s word text line
+note_line_takes : (s : Standing) (word text : List ℕ) (line : Line) → allows s.stage forms.Note ≡ true → note_of s word text ≡ Some line → Read s word text line
 unfolding note_of
 note_line_takes s word text line stage h =
     let note = bind_some (note_in s.version s.shards word text) _ line h in
@@ -165,29 +168,37 @@ note_line_takes s word text line stage h =
 
 -- ---- whole lines
 
+-- the word by which a line has this form
+abbrev Opens : LineForm → List ℕ → Type 0
+Opens forms.Head word = word ≡ codes "trace"
+Opens forms.Event word = word ≡ codes "e"
+Opens forms.Message word = word ≡ codes "m"
+Opens forms.Order word = word ≡ codes "order"
+Opens forms.End word = word ≡ codes "end"
+Opens forms.Note word = Unit {0}
+
+form_opens : (word : List ℕ) → Opens (form_of word) word
+form_opens word = try (codes "trace") forms.Head _ (λ e. e) (try (codes "e") forms.Event _ (λ e. e) (try (codes "m") forms.Message _ (λ e. e)
+    (try (codes "order") forms.Order _ (λ e. e) (try (codes "end") forms.End _ (λ e. e) tt)))) where
+      try : (w : List ℕ) (form other : LineForm) → (word ≡ w → Opens form word) → Opens other word → Opens (cond (is_word w word) form other) word
+      try w form other same else = go (is_word w word) refl where
+        go : (b : Bool) → is_word w word ≡ b → Opens (cond b form other) word
+        go true e = same (word_is w word e)
+        go false e = else
+
+form_takes : (form : LineForm) (s : Standing) (word text : List ℕ) (line : Line) → Opens form word → allows s.stage form ≡ true → line_as form s word text ≡ Some line → Read s word text line
+form_takes forms.Head s word text line e stage h = rw e (head_takes s text line stage h)
+form_takes forms.Event s word text line e stage h = rw e (event_takes s text line stage h)
+form_takes forms.Note s word text line e stage h = note_line_takes s word text line stage h
+form_takes forms.Message s word text line e stage h = rw e (message_takes s text line stage h)
+form_takes forms.Order s word text line e stage h = rw e (order_line_takes s text line stage h)
+form_takes forms.End s word text line e stage h = rw e (end_takes s text line stage h)
+
 words_take : (s : Standing) (word text : List ℕ) (line : Line) → line_of s word text ≡ Some line → Read s word text line
 unfolding line_of
-words_take s word text line h = elim (either (is_word (codes "trace") word && is_start s.stage) (head_of s text) _ line h) [
-  | inl a ↦ named (codes "trace") (is_start s.stage) a.0 (λ stage. head_takes s text line stage a.1)
-  | inr b ↦ elim (either (is_word (codes "e") word && is_within s.stage) (event_of s text) _ line b.1) [
-    | inl a ↦ named (codes "e") (is_within s.stage) a.0 (λ stage. event_takes s text line stage a.1)
-    | inr d ↦ elim (either (is_word (codes "m") word && has_event s.stage) (message_of s text) _ line d.1) [
-      | inl a ↦ named (codes "m") (has_event s.stage) a.0 (λ stage. message_takes s text line stage a.1)
-      | inr e ↦ elim (either (is_word (codes "order") word && is_within s.stage) (order_of text) _ line e.1) [
-        | inl a ↦ named (codes "order") (is_within s.stage) a.0 (λ stage. order_line_takes s text line stage a.1)
-        | inr f ↦ elim (either (is_word (codes "end") word && is_ordered s.stage) (end_of s text) _ line f.1) [
-          | inl a ↦ named (codes "end") (is_ordered s.stage) a.0 (λ stage. end_takes s text line stage a.1)
-          | inr g ↦ elim (either (is_event s.stage) (note_of s word text) _ line g.1) [
-            | inl a ↦ note_line_takes s word text line a.0 a.1
-            | inr none ↦ (let impossible = none.1 in absurd cc)
-          ]
-        ]
-      ]
-    ]
-  ]
-] where
-  named : (w : List ℕ) (stage : Bool) → (is_word w word && stage) ≡ true → (stage ≡ true → Read s w text line) → Read s word text line
-  named w stage both_are read = subst (λ (v : List ℕ). Read s v text line) (sym (word_is w word (left_of (is_word w word) stage both_are))) (read (right_of (is_word w word) stage both_are))
+words_take s word text line h =
+    let k = taken (allows s.stage (form_of word)) (line_as (form_of word) s word text) line h in
+    form_takes (form_of word) s word text line (form_opens word) k.0 k.1
 
 pub line_takes : (s : Standing) (text : List ℕ) (line : Line) → line_in s text ≡ Some line → MayStand s line × (text ≡ line_text line)
 unfolding line_in

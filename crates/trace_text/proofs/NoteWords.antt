@@ -15,7 +15,9 @@ use Rattle.tcs_terms.proofs.PayloadSpelling.{text_of_words, text_read_again}
 use Rattle.tcs_terms.proofs.ValueLaws.{value_in_takes, value_in_again}
 use Rattle.tcs_terms.specs.Texts.{txn_text}
 use Rattle.trace_text.specs.Texts.{decision_text, note_text}
-use Rattle.trace_text.specs.Lines.{IsNote, Standing, is_event}
+use Rattle.trace_text.specs.declared.stages.LineForm.TheVariants as forms
+use Rattle.trace_text.specs.Stages.{allows}
+use Rattle.trace_text.specs.Lines.{IsNote, Standing}
 use Rattle.trace_text.specs.Words.{cut, is_word, txn_in, name_in}
 use Rattle.trace_text.specs.Readings.{begin_in, take_in, read_in, decide_in, decision_in, note_in, note_of, line_of}
 use Rattle.trace_text.proofs.Steps.{bind_some, some_is, either}
@@ -141,7 +143,7 @@ pub record Spelled (version shards : ℕ) (n : Note) : Type 0 where
   pub parts : note_text n ≡ word ++ 32 ∷ text
   pub solid : lacks 32 word ≡ true
   pub again : note_in version shards word text ≡ Some n
-  pub only_a_note : (s : Standing) → line_of s word text ≡ cond (is_event s.stage) (note_of s word text) None
+  pub only_a_note : (s : Standing) → line_of s word text ≡ cond (allows s.stage forms.Note) (note_of s word text) None
 
 pub note_again : (version shards : ℕ) (n : Note) → shards < 2 ^ 64 → IsNote version shards n → Spelled version shards n
 unfolding line_of note_in begin_in take_in read_in decide_in

@@ -18,6 +18,11 @@ pub kept : {A : Type 0} (b : Bool) (x y : A) → cond b (Some x) None ≡ Some y
 kept true x y e = (refl, cc)
 kept false x y e = absurd cc
 
+-- what was read where the test was met
+pub taken : {A : Type 0} (b : Bool) (o : Option A) (y : A) → cond b o None ≡ Some y → (b ≡ true) × (o ≡ Some y)
+taken true o y e = (refl, e)
+taken false o y e = absurd cc
+
 -- which branch gave something
 pub either : {A : Type 0} (b : Bool) (o r : Option A) (y : A) → cond b o r ≡ Some y → ((b ≡ true) × (o ≡ Some y)) ⊎ ((b ≡ false) × (r ≡ Some y))
 either true o r y e = inl (refl, e)

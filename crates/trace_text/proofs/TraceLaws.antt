@@ -10,9 +10,11 @@ use Rattle.tcs_terms.specs.declared.inputs.Note.{Note}
 use Rattle.tcs_terms.proofs.BoolLaws.{right_of}
 use Rattle.trace_text.specs.declared.items.TraceItem.{TraceItem}
 use Rattle.trace_text.specs.declared.items.TraceItem.TheVariants as items
-use Rattle.trace_text.specs.declared.reader.Stage.{Stage}
-use Rattle.trace_text.specs.declared.reader.Stage.TheVariants.{Event, Messages, Ended}
-use Rattle.trace_text.specs.Lines.{Line, HeadLine, EventLine, NoteLine, MessageLine, OrderLine, EndLine, line_text, Standing, IsStanding, MayStand, IsNote, is_within, is_event, has_event, printed, at_start, after, item_of}
+use Rattle.trace_text.specs.declared.stages.Stage.{Stage}
+use Rattle.trace_text.specs.declared.stages.Stage.TheVariants.{Start, Begun, Event, Messages, Ordered, Ended}
+use Rattle.trace_text.specs.declared.stages.LineForm.TheVariants as forms
+use Rattle.trace_text.specs.Stages.{allows}
+use Rattle.trace_text.specs.Lines.{Line, HeadLine, EventLine, NoteLine, MessageLine, OrderLine, EndLine, line_text, Standing, IsStanding, MayStand, IsNote, printed, at_start, after, item_of}
 use Rattle.trace_text.specs.Traces.{Sending, Happening, Trace, sends_of, message_lines, event_lines, events_lines, trace_lines, event_items, trace_items, IsSending, IsHappening, IsTrace, read_lines, at_end}
 use Rattle.trace_text.proofs.LineWords.{line_again}
 
@@ -56,7 +58,7 @@ all_read s (line ∷ lines) i h = rw (line_again s line i h.0, all_read (after s
 
 -- behind the line of an event, of this version, with so many shards, events and messages
 record Within (s : Standing) (version shards events messages : ℕ) : Type 0 where
-  stage : is_within s.stage ≡ true
+  stage : allows s.stage forms.Event ≡ true
   version_is : s.version ≡ version
   shards_is : s.shards ≡ shards
   events_is : s.events ≡ events
@@ -64,32 +66,32 @@ record Within (s : Standing) (version shards events messages : ℕ) : Type 0 whe
 
 notes_stand : (s : Standing) (notes : List Note) → s.stage ≡ Event → AllByRecursion (IsNote s.version s.shards) notes → AllStand s (map NoteLine notes)
 notes_stand s [] e h = tt
-notes_stand s (n ∷ ns) e h = ((ap is_event e, h.0), notes_stand s ns e h.1)
+notes_stand s (n ∷ ns) e h = ((ap (λ (x : Stage). allows x forms.Note) e, h.0), notes_stand s ns e h.1)
 
 behind_notes : (s : Standing) (notes : List Note) → behind_all s (map NoteLine notes) ≡ s
 behind_notes s [] = refl
 behind_notes s (n ∷ ns) = behind_notes s ns
 
-messages_stand : (s : Standing) (sends : List Sending) → has_event s.stage ≡ true → s.messages + length sends < 2 ^ 64 → AllByRecursion (IsSending s.version) sends
+messages_stand : (s : Standing) (sends : List Sending) → allows s.stage forms.Message ≡ true → s.messages + length sends < 2 ^ 64 → AllByRecursion (IsSending s.version) sends
     → AllStand s (message_lines (s.messages + 1) sends)
 messages_stand s [] e few h = tt
 messages_stand s (m ∷ ms) e few h =
     ((e, refl, omega arith, h.0.from, h.0.to, h.0.frame), messages_stand (after s (MessageLine (s.messages + 1) m.from m.to m.frame)) ms refl (omega arith) h.1)
 
-has_is_within : (stage : Stage) → has_event stage ≡ true → is_within stage ≡ true
-has_is_within Event h = refl
-has_is_within Messages h = refl
-has_is_within stage h = absurd cc
+event_follows : (stage : Stage) → allows stage forms.Message ≡ true → allows stage forms.Event ≡ true
+event_follows Event h = refl
+event_follows Messages h = refl
+event_follows stage h = absurd cc
 
-behind_messages : (s : Standing) (sends : List Sending) → has_event s.stage ≡ true
+behind_messages : (s : Standing) (sends : List Sending) → allows s.stage forms.Message ≡ true
     → Within (behind_all s (message_lines (s.messages + 1) sends)) s.version s.shards s.events (s.messages + length sends)
-behind_messages s [] e = record { stage = has_is_within s.stage e; version_is = refl; shards_is = refl; events_is = refl; messages_is = omega arith }
+behind_messages s [] e = record { stage = event_follows s.stage e; version_is = refl; shards_is = refl; events_is = refl; messages_is = omega arith }
 behind_messages s (m ∷ ms) e =
     let more = behind_messages (after s (MessageLine (s.messages + 1) m.from m.to m.frame)) ms refl in
     let count = more.messages_is in
     record { stage = more.stage; version_is = more.version_is; shards_is = more.shards_is; events_is = more.events_is; messages_is = omega arith }
 
-event_stands : (s : Standing) (h : Happening) → is_within s.stage ≡ true → s.events + 1 < 2 ^ 64 → s.messages + length h.sends < 2 ^ 64 → IsHappening s.version s.shards h
+event_stands : (s : Standing) (h : Happening) → allows s.stage forms.Event ≡ true → s.events + 1 < 2 ^ 64 → s.messages + length h.sends < 2 ^ 64 → IsHappening s.version s.shards h
     → AllStand s (event_lines (s.events + 1) (s.messages + 1) h)
 event_stands s h within few_events few_messages is =
     let first = EventLine (s.events + 1) h.result in
@@ -108,7 +110,7 @@ behind_event s h =
 
 -- ---- the lines of all events
 
-events_stand : (s : Standing) (hs : List Happening) → is_within s.stage ≡ true → s.events + length hs < 2 ^ 64 → s.messages + sends_of hs < 2 ^ 64
+events_stand : (s : Standing) (hs : List Happening) → allows s.stage forms.Event ≡ true → s.events + length hs < 2 ^ 64 → s.messages + sends_of hs < 2 ^ 64
     → AllByRecursion (IsHappening s.version s.shards) hs → AllStand s (events_lines (s.events + 1) (s.messages + 1) hs)
 events_stand s [] within few_events few_messages is = tt
 events_stand s (h ∷ hs) within few_events few_messages is =
@@ -125,7 +127,7 @@ events_stand s (h ∷ hs) within few_events few_messages is =
     stand_append s lines (events_lines (s.events + 1 + 1) (s.messages + 1 + length h.sends) hs) (event_stands s h within (omega arith) (omega arith) is.0)
     (subst (λ (k : ℕ). AllStand t (events_lines k (s.messages + 1 + length h.sends) hs)) next_event (subst (λ (n : ℕ). AllStand t (events_lines (t.events + 1) n hs)) next_message more))
 
-behind_events : (s : Standing) (hs : List Happening) → is_within s.stage ≡ true
+behind_events : (s : Standing) (hs : List Happening) → allows s.stage forms.Event ≡ true
     → Within (behind_all s (events_lines (s.events + 1) (s.messages + 1) hs)) s.version s.shards (s.events + length hs) (s.messages + sends_of hs)
 behind_events s [] within = record { stage = within; version_is = refl; shards_is = refl; events_is = omega arith; messages_is = omega arith }
 behind_events s (h ∷ hs) within =
@@ -152,6 +154,15 @@ behind_events s (h ∷ hs) within =
 
 -- ---- the trace
 
+-- the order may come wherever an event may
+order_follows : (stage : Stage) → allows stage forms.Event ≡ true → allows stage forms.Order ≡ true
+order_follows Start h = absurd cc
+order_follows Begun h = refl
+order_follows Event h = refl
+order_follows Messages h = refl
+order_follows Ordered h = absurd cc
+order_follows Ended h = absurd cc
+
 abbrev behind_head : Trace → Standing
 behind_head t = after at_start (HeadLine t.version t.rule t.shards)
 
@@ -168,7 +179,7 @@ trace_stands t h =
     let few_messages = h.few_messages in (
       (refl, h.version, h.shards),
       stand_append s (events_lines 1 1 t.happenings) (last_lines t) (events_stand s t.happenings refl (omega arith) (omega arith) h.happenings)
-          ((w.stage, h.order), ((refl, omega arith, omega arith), tt)),
+          ((order_follows _ w.stage, h.order), ((refl, omega arith, omega arith), tt)),
     )
 
 same_standing : (a b c d e f g h : ℕ) → a ≡ e → b ≡ f → c ≡ g → d ≡ h

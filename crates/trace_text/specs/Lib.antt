@@ -1,6 +1,7 @@
 pub mod Texts
 pub mod Versions
-pub mod Lines
 pub mod Words
+pub mod Stages
+pub mod Lines
 pub mod Readings
 pub mod Traces

@@ -24,11 +24,13 @@ use Rattle.tcs_terms.specs.Messages.{is_txn, InRange}
 use Rattle.wire_frame.specs.Spelling.{spell}
 use Rattle.trace_text.specs.declared.items.TraceItem.{TraceItem}
 use Rattle.trace_text.specs.declared.items.TraceItem.TheVariants as items
-use Rattle.trace_text.specs.declared.reader.Stage.{Stage}
-use Rattle.trace_text.specs.declared.reader.Stage.TheVariants.{Start, Begun, Event, Messages, Ordered, Ended}
+use Rattle.trace_text.specs.declared.stages.Stage.{Stage}
+use Rattle.trace_text.specs.declared.stages.LineForm.TheVariants as forms
+use Rattle.trace_text.specs.declared.stages.Stage.TheVariants.{Start, Begun, Event, Messages, Ordered, Ended}
 use Rattle.tcs_terms.specs.Texts.{rule_text}
 use Rattle.trace_text.specs.Texts.{result_text, note_text, kind_text, order_text}
 use Rattle.trace_text.specs.Versions.{message_fits}
+use Rattle.trace_text.specs.Stages.{allows}
 
 -- A line of a trace. A message has its number, its sender, its receiver and its frame.
 pub data Line : Type 0 where
@@ -76,51 +78,6 @@ pub record IsStanding (s : Standing) : Type 0 where
 abbrev pub at_start : Standing
 at_start = record { stage = Start; version = 1; shards = 0; events = 0; messages = 0 }
 
--- behind no line
-abbrev pub is_start : Stage → Bool
-is_start Start = true
-is_start Begun = false
-is_start Event = false
-is_start Messages = false
-is_start Ordered = false
-is_start Ended = false
-
--- behind the first line, and before the order
-abbrev pub is_within : Stage → Bool
-is_within Start = false
-is_within Begun = true
-is_within Event = true
-is_within Messages = true
-is_within Ordered = false
-is_within Ended = false
-
--- behind the line of an event, or one of its notes
-abbrev pub is_event : Stage → Bool
-is_event Start = false
-is_event Begun = false
-is_event Event = true
-is_event Messages = false
-is_event Ordered = false
-is_event Ended = false
-
--- behind the line of an event, its notes or its messages
-abbrev pub has_event : Stage → Bool
-has_event Start = false
-has_event Begun = false
-has_event Event = true
-has_event Messages = true
-has_event Ordered = false
-has_event Ended = false
-
--- behind the order
-abbrev pub is_ordered : Stage → Bool
-is_ordered Start = false
-is_ordered Begun = false
-is_ordered Event = false
-is_ordered Messages = false
-is_ordered Ordered = true
-is_ordered Ended = false
-
 -- a mark is below 2 ^ 32
 abbrev pub IsHandled : Handled → Type 0
 IsHandled handled.Acted = Unit {0}
@@ -159,13 +116,13 @@ pub record IsFrame (version : ℕ) (frame : List ℕ) : Type 0 where
 
 -- Numbers of events and of messages count from 1 without gaps; ends are 0 to 64; the last line has the counts.
 abbrev pub MayStand : Standing → Line → Type 0
-MayStand s (HeadLine version rule shards) = IsTrue (is_start s.stage) × IsTrue (nat_le 1 version && nat_le version 2) × IsTrue (is_shard shards)
-MayStand s (EventLine k result) = IsTrue (is_within s.stage) × (k ≡ s.events + 1) × (k < 2 ^ 64) × IsResult result
-MayStand s (NoteLine note) = IsTrue (is_event s.stage) × IsNote s.version s.shards note
+MayStand s (HeadLine version rule shards) = IsTrue (allows s.stage forms.Head) × IsTrue (nat_le 1 version && nat_le version 2) × IsTrue (is_shard shards)
+MayStand s (EventLine k result) = IsTrue (allows s.stage forms.Event) × (k ≡ s.events + 1) × (k < 2 ^ 64) × IsResult result
+MayStand s (NoteLine note) = IsTrue (allows s.stage forms.Note) × IsNote s.version s.shards note
 MayStand s (MessageLine number from to frame) =
-    IsTrue (has_event s.stage) × (number ≡ s.messages + 1) × (number < 2 ^ 64) × (from ≤ MAX_NODES) × (to ≤ MAX_NODES) × IsFrame s.version frame
-MayStand s (OrderLine order) = IsTrue (is_within s.stage) × IsTrue (list_all is_txn order)
-MayStand s (EndLine events messages) = IsTrue (is_ordered s.stage) × (events ≡ s.events) × (messages ≡ s.messages)
+    IsTrue (allows s.stage forms.Message) × (number ≡ s.messages + 1) × (number < 2 ^ 64) × (from ≤ MAX_NODES) × (to ≤ MAX_NODES) × IsFrame s.version frame
+MayStand s (OrderLine order) = IsTrue (allows s.stage forms.Order) × IsTrue (list_all is_txn order)
+MayStand s (EndLine events messages) = IsTrue (allows s.stage forms.End) × (events ≡ s.events) × (messages ≡ s.messages)
 
 -- where it stands behind one more line
 abbrev pub after : Standing → Line → Standing

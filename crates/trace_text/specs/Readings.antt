@@ -22,8 +22,11 @@ use Rattle.trace_text.specs.declared.items.TraceFault.{TraceFault}
 use Rattle.trace_text.specs.declared.items.TraceFault.TheVariants.{Bad, OutOfMemory}
 use Rattle.trace_text.specs.Texts.{kind_text}
 use Rattle.trace_text.specs.Versions.{message_fits}
-use Rattle.trace_text.specs.Lines.{Line, HeadLine, EventLine, NoteLine, MessageLine, OrderLine, EndLine, line_text, Standing, MayStand, is_start, is_within, is_event, has_event, is_ordered, after, item_of}
+use Rattle.trace_text.specs.Lines.{Line, HeadLine, EventLine, NoteLine, MessageLine, OrderLine, EndLine, line_text, Standing, MayStand, after, item_of}
 use Rattle.tcs_terms.specs.Texts.{rule_in}
+use Rattle.trace_text.specs.declared.stages.LineForm.{LineForm}
+use Rattle.trace_text.specs.declared.stages.LineForm.TheVariants as forms
+use Rattle.trace_text.specs.Stages.{form_of, allows}
 use Rattle.trace_text.specs.Words.{◌>>=◌, first_word, is_word, number_within, next_number, txn_in, name_in, bytes_in, each_txn}
 
 -- ---- results
@@ -184,16 +187,18 @@ end_of s text = do
   messages ← number_in words.1
   if (events == s.events) && (messages == s.messages) then Some (EndLine events messages) else None
 
--- a line: its first word, and what follows
+-- a line of this form: its first word, and what follows
+abbrev pub line_as : LineForm → Standing → List ℕ → List ℕ → Option Line
+line_as forms.Head s word text = head_of s text
+line_as forms.Event s word text = event_of s text
+line_as forms.Note s word text = note_of s word text
+line_as forms.Message s word text = message_of s text
+line_as forms.Order s word text = order_of text
+line_as forms.End s word text = end_of s text
+
+-- a line of the form that its first word says, where it may come next
 unfoldable pub line_of : Standing → List ℕ → List ℕ → Option Line
-line_of s word text =
-    if is_word (codes "trace") word && is_start s.stage then head_of s text
-    else if is_word (codes "e") word && is_within s.stage then event_of s text
-    else if is_word (codes "m") word && has_event s.stage then message_of s text
-    else if is_word (codes "order") word && is_within s.stage then order_of text
-    else if is_word (codes "end") word && is_ordered s.stage then end_of s text
-    else if is_event s.stage then note_of s word text
-    else None
+line_of s word text = if allows s.stage (form_of word) then line_as (form_of word) s word text else None
 
 -- the line that a text is, behind these lines
 unfoldable pub line_in : Standing → List ℕ → Option Line

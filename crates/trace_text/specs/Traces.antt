@@ -10,7 +10,7 @@ use Rattle.tcs_terms.specs.Places.{is_shard}
 use Rattle.tcs_terms.specs.Messages.{is_txn}
 use Rattle.trace_text.specs.declared.items.TraceItem.{TraceItem}
 use Rattle.trace_text.specs.declared.items.TraceItem.TheVariants as items
-use Rattle.trace_text.specs.declared.reader.Stage.TheVariants.{Ended}
+use Rattle.trace_text.specs.declared.stages.Stage.TheVariants.{Ended}
 use Rattle.trace_text.specs.Lines.{Line, HeadLine, EventLine, NoteLine, MessageLine, OrderLine, EndLine, Standing, IsResult, IsNote, IsFrame, after, item_of}
 use Rattle.trace_text.specs.Words.{◌>>=◌}
 use Rattle.trace_text.specs.Readings.{line_in}

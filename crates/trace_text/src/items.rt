@@ -1,8 +1,9 @@
 //! What a reader of traces answers.
-ghost use Rattle.std.specs.Prelude.{◌≡◌};
+ghost use Rattle.std.specs.Prelude.{◌≡◌, IfOk};
 
+use std::alloc::Global;
 use std::marker::Model;
-use tcs_terms::{Note, Rule, TxId};
+use tcs_terms::{Note, OutOfMemory, Rule, TxId};
 use thiserror::Error;
 
 /// Transactions in an order. Seen as their list.
@@ -33,6 +34,14 @@ impl TxList {
         ensures { result.now ≡ self.now }
     {
         self.list.as_slice()
+    }
+
+    pub fn copy(&self, alloc: Global) -> Result<TxList, OutOfMemory>
+        ensures { IfOk result (λ copy. copy ≡ self.now) }
+    {
+        let mut list = Vec::with_capacity(alloc, self.list.len())?;
+        list.extend_from_slice(&self.list)?;
+        Ok(TxList { list })
     }
 }
 

@@ -11,6 +11,7 @@ mod printers;
 mod printing;
 mod reader;
 mod results;
+mod stages;
 #[cfg(test)]
 mod tests;
 mod versions;
@@ -21,4 +22,5 @@ pub use laws::{happenings_are_printed, no_feed_inside, one_reading, traces_are_r
 pub use printers::{
     print_happening, print_head, print_kind, print_message, print_note, print_result, print_tail,
 };
-pub use reader::{Stage, TraceReader};
+pub use reader::TraceReader;
+pub use stages::Stage;

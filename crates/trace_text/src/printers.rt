@@ -123,10 +123,7 @@ fn print_notes(notes: &[Note], out: &mut Vec<u8>) -> Result<(), OutOfMemory>
     ensures err { OnErr result (Begins out.old.items out.new.items) }
 {
     for note in notes {
-        match print_note(note, out) {
-            Ok(()) => {}
-            Err(OutOfMemory) => return Err(OutOfMemory),
-        }
+        print_note(note, out)?;
     }
     Ok(())
 }

@@ -76,8 +76,12 @@ pub(crate) fn put_hex(out: &mut Vec<u8>, bytes: &[u8]) -> Result<(), OutOfMemory
     ensures ok { OnOk result (out.new.items ≡ out.old.items ++ encode_lower bytes.now) }
     ensures err { OnErr result (Begins out.old.items out.new.items) }
 {
-    let text = hex::encode(*out.allocator(), bytes)?;
-    put(out, text.as_bytes())
+    let held = out.len();
+    out.resize(held.saturating_add(2 * bytes.len()), 0)?;
+    match hex::encode_to_slice(bytes, &mut out[held..]) {
+        Ok(()) => Ok(()),
+        Err(_) => unreachable!(),
+    }
 }
 
 pub(crate) fn put_value(out: &mut Vec<u8>, value: &[u8]) -> Result<(), OutOfMemory>
@@ -113,10 +117,7 @@ fn put_more(out: &mut Vec<u8>, order: &[TxId]) -> Result<(), OutOfMemory>
     ensures err { OnErr result (Begins out.old.items out.new.items) }
 {
     for txn in order {
-        match put_next(out, *txn) {
-            Ok(()) => {}
-            Err(OutOfMemory) => return Err(OutOfMemory),
-        }
+        put_next(out, *txn)?;
     }
     Ok(())
 }

@@ -1,107 +1,20 @@
 //! Reads a trace line by line.
 ghost use Rattle.std.specs.Prelude.{◌≡◌, ℕ, List, IfOk, OnErr};
 ghost use Rattle.std.specs.Option.{option_map};
-ghost use Rattle.trace_text.specs.Lines.{Line, line_text, IsStanding, MayStand, at_start, is_start, is_within, is_event, has_event, is_ordered};
-ghost use Rattle.trace_text.specs.Readings.{note_of, head_of, event_of, ends_of, message_of, order_of, end_of, line_of, line_in, Takes, Answers, Accepts, IsMemoryOr};
+ghost use Rattle.trace_text.specs.Lines.{Line, line_text, IsStanding, MayStand, at_start};
+ghost use Rattle.trace_text.specs.Stages.{form_of};
+ghost use Rattle.trace_text.specs.Readings.{note_of, head_of, event_of, ends_of, message_of, order_of, end_of, line_as, line_of, line_in, Takes, Answers, Accepts, IsMemoryOr};
 
 use crate::frames::frame_in;
 use crate::items::{TraceFault, TraceItem, TxList};
 use crate::notes::note_in;
 use crate::results::result_in;
+use crate::stages::{LineForm, Stage};
 use crate::words::{cut, next_number, number_within, order_in};
 use std::alloc::Global;
 use std::marker::Model;
 use tcs_terms::limits::{MAX_NODES, MAX_SHARDS};
 use tcs_terms::{OutOfMemory, Rule, read_number};
-
-/// Behind which lines a reader stands.
-#[derive(Clone, Copy, Debug, PartialEq, Eq)]
-pub enum Stage {
-    /// Behind no line.
-    Start,
-    /// Behind the first line.
-    Begun,
-    /// Behind the line of an event, or one of its notes.
-    Event,
-    /// Behind a message.
-    Messages,
-    /// Behind the order.
-    Ordered,
-    /// Behind the last line.
-    Ended,
-}
-
-impl Stage {
-    /// Behind no line.
-    fn is_start(self) -> bool
-        ensures { result ≡ is_start self }
-    {
-        match self {
-            Stage::Start => true,
-            Stage::Begun => false,
-            Stage::Event => false,
-            Stage::Messages => false,
-            Stage::Ordered => false,
-            Stage::Ended => false,
-        }
-    }
-
-    /// Behind the first line, and before the order.
-    fn is_within(self) -> bool
-        ensures { result ≡ is_within self }
-    {
-        match self {
-            Stage::Start => false,
-            Stage::Begun => true,
-            Stage::Event => true,
-            Stage::Messages => true,
-            Stage::Ordered => false,
-            Stage::Ended => false,
-        }
-    }
-
-    /// Behind the line of an event, or one of its notes.
-    fn is_event(self) -> bool
-        ensures { result ≡ is_event self }
-    {
-        match self {
-            Stage::Start => false,
-            Stage::Begun => false,
-            Stage::Event => true,
-            Stage::Messages => false,
-            Stage::Ordered => false,
-            Stage::Ended => false,
-        }
-    }
-
-    /// Behind the line of an event, its notes or its messages.
-    fn has_event(self) -> bool
-        ensures { result ≡ has_event self }
-    {
-        match self {
-            Stage::Start => false,
-            Stage::Begun => false,
-            Stage::Event => true,
-            Stage::Messages => true,
-            Stage::Ordered => false,
-            Stage::Ended => false,
-        }
-    }
-
-    /// Behind the order.
-    fn is_ordered(self) -> bool
-        ensures { result ≡ is_ordered self }
-    {
-        match self {
-            Stage::Start => false,
-            Stage::Begun => false,
-            Stage::Event => false,
-            Stage::Messages => false,
-            Stage::Ordered => true,
-            Stage::Ended => false,
-        }
-    }
-}
 
 /// Reads a trace line by line. Seen as where it stands.
 #[derive(Debug, Drop)]
@@ -202,20 +115,31 @@ impl TraceReader {
         ensures item { IfOk result (λ item. Takes self.old self.new item (line_of self.old word.now text.now)) }
         ensures err { OnErr result (self.new ≡ self.old) }
     {
-        if word == b"trace".as_slice() && stage.is_start() {
-            Ok(self.take_head(text))
-        } else if word == b"e".as_slice() && stage.is_within() {
-            Ok(self.take_event(text))
-        } else if word == b"m".as_slice() && stage.has_event() {
-            self.take_message(alloc, text)
-        } else if word == b"order".as_slice() && stage.is_within() {
-            self.take_order(alloc, text)
-        } else if word == b"end".as_slice() && stage.is_ordered() {
-            Ok(self.take_end(text))
-        } else if stage.is_event() {
-            self.take_note(alloc, word, text)
+        let form = LineForm::of(word);
+        if stage.allows(form) {
+            self.take_form(alloc, form, word, text)
         } else {
             Ok(None)
+        }
+    }
+
+    fn take_form(
+        &mut self,
+        alloc: Global,
+        form: LineForm,
+        word: &[u8],
+        text: &[u8],
+    ) -> Result<Option<TraceItem>, OutOfMemory>
+        ensures item { IfOk result (λ item. Takes self.old self.new item (line_as form self.old word.now text.now)) }
+        ensures err { OnErr result (self.new ≡ self.old) }
+    {
+        match form {
+            LineForm::Head => Ok(self.take_head(text)),
+            LineForm::Event => Ok(self.take_event(text)),
+            LineForm::Note => self.take_note(alloc, word, text),
+            LineForm::Message => self.take_message(alloc, text),
+            LineForm::Order => self.take_order(alloc, text),
+            LineForm::End => Ok(self.take_end(text)),
         }
     }
 

@@ -3,117 +3,87 @@ use Rattle.std.proofs.Common.{◌≡◌, ℕ, ◌<◌, ◌≤◌, Bool, true, fa
 use Rattle.std.specs.Prelude.{slice_index, IsTrue, IfOk}
 use Rattle.std.proofs.lemmas.Bool.{eqb-true, eqb-false}
 use Rattle.std.proofs.lemmas.List.{append-nil, nil_from_length}
+use Rattle.tcs_terms.specs.declared.kinds.Kind.{Kind}
+use Rattle.tcs_terms.specs.declared.kinds.Kind.TheVariants as kinds
 use Rattle.tcs_terms.specs.declared.messages.Message.{Message}
 use Rattle.tcs_terms.specs.declared.messages.Message.TheVariants.{Prepare, PrepareAck, Accept, AcceptAck, DecisionFor, Probe, ProbeAck, NewConfig, NewState, ConfigChange, Last, At, Cas, Stored, OutcomeOf, Refused, StatePiece}
+use Rattle.tcs_terms.specs.Kinds as Kinds
+use Rattle.tcs_terms.specs.Kinds.{kind_number}
 use Rattle.tcs_terms.specs.Messages.{InRange}
 use Rattle.wire_frame.specs.declared.faults.FrameReason.{FrameReason}
-use Rattle.wire_frame.specs.declared.faults.FrameReason.TheVariants.{Kind, Trailing}
+use Rattle.wire_frame.specs.declared.faults.FrameReason.TheVariants as reasons
+use Rattle.wire_frame.specs.declared.faults.FrameReason.TheVariants.{Trailing}
 use Rattle.wire_frame.specs.declared.faults.Fault.{Fault}
 use Rattle.wire_frame.specs.declared.faults.DecodeFault.{DecodeFault}
 use Rattle.wire_frame.specs.declared.faults.DecodeFault.TheVariants.{Bad, OutOfMemory}
 use Rattle.wire_frame.specs.Spelling.{kind_of, spell_rest, spell}
-use Rattle.wire_frame.specs.Reading.{Reads, fault_at, ◌>>=◌, byte_at, tested}
-use Rattle.wire_frame.specs.Frames.{is_kind, body_at, message_at, read_frame, reason_and_place, fault, Decodes, IsMemoryOr, prepare_at, prepare_ack_at, accept_at, accept_ack_at, decision_for_at, probe_at, probe_ack_at, new_config_at, new_state_at, config_change_at, last_at, at_at, cas_at, stored_at, outcome_at, refused_at}
-use Rattle.wire_frame.proofs.Fields.{IsBytes, Takes, Takes-then, IsField, nothing_yet, on, bind_ok, tested_ok, goes, tested_field, restated}
-use Rattle.wire_frame.proofs.NumberFields.{one, up_to, byte_field}
-use Rattle.wire_frame.proofs.MessageFields as kinds
-use Rattle.wire_frame.proofs.MessageFields.{OfKind, TakesKind, ReadAgain}
+use Rattle.wire_frame.specs.Reading.{Reads, fault_at, ◌>>=◌}
+use Rattle.wire_frame.specs.Parts.{is_up_to}
+use Rattle.wire_frame.specs.Frames.{body_at, message_at, read_frame, reason_and_place, fault, Decodes, IsMemoryOr}
+use Rattle.wire_frame.proofs.Fields.{IsBytes, Takes, Takes-then, nothing_yet, on, bind_ok, tested_ok, goes}
+use Rattle.wire_frame.proofs.KindFields.{numbered, is_numbered, kind_field}
+use Rattle.wire_frame.proofs.MessageFields as fields
+use Rattle.wire_frame.proofs.MessageFields.{TakesKind}
 
-chosen : {A : Type 0} (b : Bool) (x y z : A) → cond b x y ≡ z → ((b ≡ true) × (x ≡ z)) ⊎ ((b ≡ false) × (y ≡ z))
-chosen true x y z e = inl (refl, e)
-chosen false x y z e = inr (refl, e)
-
--- where a kind is this one or a later one
-one_or : (kind this : ℕ) (bytes : List ℕ) (here others : Reads Message) (x : Message × List ℕ) → this ≤ kind
-    → (here ≡ Ok x → Takes bytes (spell_rest x.0) x.1 × OfKind this x.0) → (this < kind → others ≡ Ok x → Takes bytes (spell_rest x.0) x.1 × OfKind kind x.0)
-    → cond (eqb kind this) here others ≡ Ok x → Takes bytes (spell_rest x.0) x.1 × OfKind kind x.0
-one_or kind this bytes here others x low if_here if_other e =
-    elim (chosen (eqb kind this) here others (Ok x) e) [
-      | inl h ↦ let t = if_here h.1 in (t.0, (t.1.0, t.1.1 ∙ sym (eqb-true kind this h.0)))
-      | inr h ↦ if_other (let other = eqb-false kind this h.0 in omega arith) h.1
-    ]
-
-body_takes : (kind : ℕ) (bytes : List ℕ) (x : Message × List ℕ) → 1 ≤ kind → kind ≤ 17 → IsBytes bytes → body_at kind bytes ≡ Ok x → Takes bytes (spell_rest x.0) x.1 × OfKind kind x.0
+body_takes : (kind : Kind) → TakesKind kind (body_at kind)
 unfolding body_at
-body_takes kind bytes x low high fits e =
-    one_or kind 1 bytes (prepare_at bytes) _ x low (kinds.prepare_takes bytes x fits) (λ low e.
-    one_or kind 2 bytes (prepare_ack_at bytes) _ x low (kinds.prepare_ack_takes bytes x fits) (λ low e.
-    one_or kind 3 bytes (accept_at bytes) _ x low (kinds.accept_takes bytes x fits) (λ low e.
-    one_or kind 4 bytes (accept_ack_at bytes) _ x low (kinds.accept_ack_takes bytes x fits) (λ low e.
-    one_or kind 5 bytes (decision_for_at bytes) _ x low (kinds.decision_for_takes bytes x fits) (λ low e.
-    one_or kind 6 bytes (probe_at bytes) _ x low (kinds.probe_takes bytes x fits) (λ low e.
-    one_or kind 7 bytes (probe_ack_at bytes) _ x low (kinds.probe_ack_takes bytes x fits) (λ low e.
-    one_or kind 8 bytes (new_config_at bytes) _ x low (kinds.new_config_takes bytes x fits) (λ low e.
-    one_or kind 9 bytes (new_state_at bytes) _ x low (kinds.new_state_takes bytes x fits) (λ low e.
-    one_or kind 10 bytes (config_change_at bytes) _ x low (kinds.config_change_takes bytes x fits) (λ low e.
-    one_or kind 11 bytes (last_at bytes) _ x low (kinds.last_takes bytes x fits) (λ low e.
-    one_or kind 12 bytes (at_at bytes) _ x low (kinds.at_takes bytes x fits) (λ low e.
-    one_or kind 13 bytes (cas_at bytes) _ x low (kinds.cas_takes bytes x fits) (λ low e.
-    one_or kind 14 bytes (stored_at bytes) _ x low (kinds.stored_takes bytes x fits) (λ low e.
-    one_or kind 15 bytes (outcome_at bytes) _ x low (kinds.outcome_takes bytes x fits) (λ low e.
-    one_or kind 16 bytes (refused_at bytes) _ x low (kinds.refused_takes bytes x fits) (λ low e.
-    let t = kinds.state_piece_takes bytes x fits e in
-    let is : 17 ≡ kind = omega arith in
-    (t.0, (t.1.0, t.1.1 ∙ is))) e) e) e) e) e) e) e) e) e) e) e) e) e) e) e) e
+body_takes kinds.Prepare bytes x fits e = fields.prepare_takes bytes x fits e
+body_takes kinds.PrepareAck bytes x fits e = fields.prepare_ack_takes bytes x fits e
+body_takes kinds.Accept bytes x fits e = fields.accept_takes bytes x fits e
+body_takes kinds.AcceptAck bytes x fits e = fields.accept_ack_takes bytes x fits e
+body_takes kinds.Decision bytes x fits e = fields.decision_for_takes bytes x fits e
+body_takes kinds.Probe bytes x fits e = fields.probe_takes bytes x fits e
+body_takes kinds.ProbeAck bytes x fits e = fields.probe_ack_takes bytes x fits e
+body_takes kinds.NewConfig bytes x fits e = fields.new_config_takes bytes x fits e
+body_takes kinds.NewState bytes x fits e = fields.new_state_takes bytes x fits e
+body_takes kinds.ConfigChange bytes x fits e = fields.config_change_takes bytes x fits e
+body_takes kinds.Last bytes x fits e = fields.last_takes bytes x fits e
+body_takes kinds.At bytes x fits e = fields.at_takes bytes x fits e
+body_takes kinds.Cas bytes x fits e = fields.cas_takes bytes x fits e
+body_takes kinds.Stored bytes x fits e = fields.stored_takes bytes x fits e
+body_takes kinds.Outcome bytes x fits e = fields.outcome_takes bytes x fits e
+body_takes kinds.Refused bytes x fits e = fields.refused_takes bytes x fits e
+body_takes kinds.StatePiece bytes x fits e = fields.state_piece_takes bytes x fits e
 
-body_again : (m : Message) (rest : List ℕ) → InRange m → body_at (kind_of m) (spell_rest m ++ rest) ≡ Ok (m, rest)
+body_again : (m : Message) (rest : List ℕ) → InRange m → body_at (Kinds.kind_of m) (spell_rest m ++ rest) ≡ Ok (m, rest)
 unfolding body_at
-body_again (Prepare epoch txn shards payload) rest is = kinds.prepare_again epoch txn shards payload rest is
-body_again (PrepareAck shard epoch entry) rest is = kinds.prepare_ack_again shard epoch entry rest is
-body_again (Accept epoch entry) rest is = kinds.accept_again epoch entry rest is
-body_again (AcceptAck shard epoch slot txn) rest is = kinds.accept_ack_again shard epoch slot txn rest is
-body_again (DecisionFor epoch slot txn commit) rest is = kinds.decision_for_again epoch slot txn commit rest is
-body_again (Probe epoch) rest is = kinds.probe_again epoch rest is
-body_again (ProbeAck epoch state) rest is = kinds.probe_ack_again epoch state rest is
-body_again (NewConfig config) rest is = kinds.new_config_again config rest is
-body_again (NewState config rows) rest is = kinds.new_state_again config rows rest is
-body_again (ConfigChange config) rest is = kinds.config_change_again config rest is
-body_again (Last shard) rest is = kinds.last_again shard rest is
-body_again (At shard epoch) rest is = kinds.at_again shard epoch rest is
-body_again (Cas config) rest is = kinds.cas_again config rest is
-body_again (Stored config) rest is = kinds.stored_again config rest is
-body_again (OutcomeOf txn decision) rest is = kinds.outcome_again txn decision rest is
-body_again (Refused kind why mark) rest is = kinds.refused_again kind why mark rest is
-body_again (StatePiece config piece pieces rows) rest is = kinds.state_piece_again config piece pieces rows rest is
+body_again (Prepare epoch txn shards payload) rest is = fields.prepare_again epoch txn shards payload rest is
+body_again (PrepareAck shard epoch entry) rest is = fields.prepare_ack_again shard epoch entry rest is
+body_again (Accept epoch entry) rest is = fields.accept_again epoch entry rest is
+body_again (AcceptAck shard epoch slot txn) rest is = fields.accept_ack_again shard epoch slot txn rest is
+body_again (DecisionFor epoch slot txn commit) rest is = fields.decision_for_again epoch slot txn commit rest is
+body_again (Probe epoch) rest is = fields.probe_again epoch rest is
+body_again (ProbeAck epoch state) rest is = fields.probe_ack_again epoch state rest is
+body_again (NewConfig config) rest is = fields.new_config_again config rest is
+body_again (NewState config rows) rest is = fields.new_state_again config rows rest is
+body_again (ConfigChange config) rest is = fields.config_change_again config rest is
+body_again (Last shard) rest is = fields.last_again shard rest is
+body_again (At shard epoch) rest is = fields.at_again shard epoch rest is
+body_again (Cas config) rest is = fields.cas_again config rest is
+body_again (Stored config) rest is = fields.stored_again config rest is
+body_again (OutcomeOf txn decision) rest is = fields.outcome_again txn decision rest is
+body_again (Refused kind why mark) rest is = fields.refused_again kind why mark rest is
+body_again (StatePiece config piece pieces rows) rest is = fields.state_piece_again config piece pieces rows rest is
 
 -- the first byte of a message's spelling is its kind
 pub kind_is : (m : Message) → slice_index (spell m) 0 ≡ kind_of m
 unfolding spell
 kind_is m = refl
 
-pub is_kind_of : (m : Message) → IsTrue (is_kind (kind_of m))
-is_kind_of (Prepare epoch txn shards payload) = refl
-is_kind_of (PrepareAck shard epoch entry) = refl
-is_kind_of (Accept epoch entry) = refl
-is_kind_of (AcceptAck shard epoch slot txn) = refl
-is_kind_of (DecisionFor epoch slot txn commit) = refl
-is_kind_of (Probe epoch) = refl
-is_kind_of (ProbeAck epoch state) = refl
-is_kind_of (NewConfig config) = refl
-is_kind_of (NewState config rows) = refl
-is_kind_of (ConfigChange config) = refl
-is_kind_of (Last shard) = refl
-is_kind_of (At shard epoch) = refl
-is_kind_of (Cas config) = refl
-is_kind_of (Stored config) = refl
-is_kind_of (OutcomeOf txn decision) = refl
-is_kind_of (Refused kind why mark) = refl
-is_kind_of (StatePiece config piece pieces rows) = refl
-
-kind_field : IsField one (λ n. IsTrue (is_kind n)) (tested Kind is_kind byte_at)
-kind_field = restated (λ n. IsTrue (is_kind n)) (λ n h. h.1) (λ n h. (omega (arith, up_to 17 n h), h)) (tested_field Kind is_kind byte_field)
+-- it is from 1 to 17
+pub is_kind_of : (m : Message) → IsTrue (is_up_to 17 (kind_of m))
+is_kind_of m = is_numbered (Kinds.kind_of m)
 
 message_takes : (bytes : List ℕ) (x : Message × List ℕ) → IsBytes bytes → message_at bytes ≡ Ok x → Takes bytes (spell x.0) x.1 × InRange x.0
 unfolding message_at spell
 message_takes bytes x fits e =
-    on kind_field _ x bytes [] bytes (nothing_yet bytes fits) e (λ kind mid so_far is_kind e.
-    let n = up_to 17 kind is_kind in
-    let t = body_takes kind mid x n.0 n.1 so_far.rest_fits e in
-    (subst (λ (k : ℕ). Takes bytes (k ∷ spell_rest x.0) x.1) (sym t.1.1) (Takes-then bytes (one kind) mid (spell_rest x.0) x.1 so_far t.0), t.1.0))
+    on (kind_field reasons.Kind) _ x bytes [] bytes (nothing_yet bytes fits) e (λ kind mid so_far is_kind e.
+    let t = body_takes kind mid x so_far.rest_fits e in
+    (subst (λ (k : Kind). Takes bytes (kind_number k ∷ spell_rest x.0) x.1) (sym t.1.1) (Takes-then bytes (numbered kind) mid (spell_rest x.0) x.1 so_far t.0), t.1.0))
 
 message_again : (m : Message) (rest : List ℕ) → InRange m → message_at (spell m ++ rest) ≡ Ok (m, rest)
 unfolding message_at spell
-message_again m rest is = goes kind_field _ (kind_of m) (spell_rest m ++ rest) (is_kind_of m) ∙ body_again m rest is
+message_again m rest is = goes (kind_field reasons.Kind) _ (Kinds.kind_of m) (spell_rest m ++ rest) tt ∙ body_again m rest is
 
 -- ---- frames
 

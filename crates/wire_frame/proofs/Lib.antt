@@ -2,6 +2,7 @@ pub mod Counts
 pub mod Fields
 pub mod Loop
 pub mod NumberFields
+pub mod KindFields
 pub mod SetFields
 pub mod NameFields
 pub mod ReadFields

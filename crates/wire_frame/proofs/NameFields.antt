@@ -1,5 +1,5 @@
 -- Names and values are read as they are spelled.
-use Rattle.std.proofs.Common.{◌≡◌, ℕ, ◌<◌, ◌≤◌, false, not, ◌||◌, ltb, leb, eqb, List, [], ◌∷◌, ◌++◌, length, Option, Some, None, Result, Ok, Err, refl, sym, ap, subst, ◌∙◌, arith, inl, inr}
+use Rattle.std.proofs.Common.{◌≡◌, ℕ, ◌<◌, ◌≤◌, true, false, not, ◌||◌, ltb, leb, eqb, List, [], ◌∷◌, ◌++◌, length, Option, Some, None, Result, Ok, Err, refl, sym, ap, subst, ◌∙◌, arith, inl, inr}
 use Rattle.std.specs.Prelude.{IsTrue, IfOk, position}
 use Rattle.std.proofs.lemmas.Bool.{cases_lt, and_from, le-leb}
 use Rattle.std.proofs.lemmas.List.{get_or_past}
@@ -86,3 +86,11 @@ value_again value rest is = goes (at_most_field 64 (omega arith)) _ (length valu
 
 pub value_field : IsField counted IsValue value_at
 value_field = record { takes = value_takes; again = value_again }
+
+-- what is read part by part is a value
+pub is_value : (bytes : List ℕ) (count : ℕ) (after value rest : List ℕ) → IsBytes bytes → byte_at bytes ≡ Ok (count, after) → count ≤ 64 → run_at count after ≡ Ok (value, rest) → IsValue value
+unfolding value_at
+is_value bytes count after value rest fits byte few run =
+    let small : leb count 64 ≡ true = le-leb count 64 few in
+    let read : value_at bytes ≡ Ok (value, rest) = rw (byte, small, run) refl in
+    (value_takes bytes (value, rest) fits read).1

@@ -14,7 +14,7 @@ use Rattle.tcs_terms.specs.Payloads.{Accesses, IsPayload, IsReadPart, IsRangePar
 use Rattle.wire_frame.specs.declared.faults.FrameReason.TheVariants.{Range}
 use Rattle.wire_frame.specs.Spelling.{eight, reads_byte, spell_read, spell_ranges, spell_writes, spell_payload, spell_maybe}
 use Rattle.wire_frame.specs.Reading.{byte_at, number_at, tested}
-use Rattle.wire_frame.specs.Parts.{is_up_to, is_reads_byte, has_ranges, reads_count, payload_at, maybe_at}
+use Rattle.wire_frame.specs.Parts.{is_up_to, is_reads_byte, has_ranges, reads_count, reads_at, ranges_at, writes_at, payload_at, maybe_at}
 use Rattle.wire_frame.proofs.Fields.{IsBytes, IsBytes-rest, Takes, IsField, nothing_yet, on, all_read, goes, tested_field}
 use Rattle.wire_frame.proofs.NumberFields.{one, up_to, eight_field, small_field}
 use Rattle.wire_frame.proofs.ReadFields.{ReadsFrom, reads_field, RangesFrom, RangesAre, begins_after, some_range, ranges_field, WritesFrom, writes_field}
@@ -194,3 +194,15 @@ maybe_again (Some p) rest is = goes payload_field _ p rest is
 
 pub maybe_field : IsField spell_maybe maybe_good maybe_at
 maybe_field = record { takes = maybe_takes; again = maybe_again }
+
+-- what is read part by part is a payload
+pub is_payload : (bytes after_version : List ℕ) (byte count : ℕ) (there : Bool) (after_byte after_reads after_ranges rest : List ℕ) (p : Accesses) → IsBytes bytes
+    → tested Range (leb 1) (number_at w64) bytes ≡ Ok (p.version, after_version) → tested Range is_reads_byte byte_at after_version ≡ Ok (byte, after_byte)
+    → count ≡ reads_count byte → reads_at p.version count after_byte ≡ Ok (p.reads, after_reads)
+    → there ≡ has_ranges byte → ranges_at p.version there after_reads ≡ Ok (p.ranges, after_ranges) → writes_at p.reads after_ranges ≡ Ok (p.writes, rest) → IsPayload p
+unfolding payload_at
+is_payload bytes after_version byte count there after_byte after_reads after_ranges rest p fits version first many reads some ranges writes =
+    let all_reads : reads_at p.version (reads_count byte) after_byte ≡ Ok (p.reads, after_reads) = rw (← many) reads in
+    let all_ranges : ranges_at p.version (has_ranges byte) after_reads ≡ Ok (p.ranges, after_ranges) = rw (← some) ranges in
+    let read : payload_at bytes ≡ Ok (p, rest) = rw (version, first, all_reads, all_ranges, writes) refl in
+    (payload_field.takes bytes (p, rest) fits read).1

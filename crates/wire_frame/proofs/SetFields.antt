@@ -8,7 +8,7 @@ use Rattle.tcs_terms.specs.Places.{is_node, is_among, IsShardSet, Membership, Is
 use Rattle.wire_frame.specs.declared.faults.FrameReason.TheVariants.{Range, Order}
 use Rattle.wire_frame.specs.Spelling.{four, counted, spell_config}
 use Rattle.wire_frame.specs.Reading.{byte_at, tested, each_at}
-use Rattle.wire_frame.specs.Parts.{is_up_to, next_at, ascending_at, shards_at, members_at, config_at}
+use Rattle.wire_frame.specs.Parts.{is_up_to, epoch_at, shard_at, next_at, ascending_at, shards_at, members_at, config_at}
 use Rattle.wire_frame.proofs.Counts.{few_shards}
 use Rattle.wire_frame.proofs.Fields.{IsBytes, Takes, Takes-then, IsField, nothing_yet, on, all_read, goes, tested_field, restated, Chain, each_takes, each_again}
 use Rattle.wire_frame.proofs.NumberFields.{one, up_to, small_field, at_most_field, epoch_field, shard_field}
@@ -125,3 +125,12 @@ config_again c rest is =
 
 pub config_field : IsField spell_config IsMembership config_at
 config_field = record { takes = config_takes; again = config_again }
+
+-- what is read part by part is a configuration
+pub is_config : (bytes after_shard after_epoch after_members after_leader rest : List ℕ) (c : Membership) → IsBytes bytes → shard_at bytes ≡ Ok (c.shard, after_shard)
+    → epoch_at after_shard ≡ Ok (c.epoch, after_epoch) → members_at after_epoch ≡ Ok (c.members, after_members) → tested Range (is_among c.members) byte_at after_members ≡ Ok (c.leader, after_leader)
+    → tested Range (λ n. leb n 64) byte_at after_leader ≡ Ok (c.by, rest) → IsMembership c
+unfolding config_at
+is_config bytes after_shard after_epoch after_members after_leader rest c fits shard epoch members leader by =
+    let read : config_at bytes ≡ Ok (c, rest) = rw (shard, epoch, members, leader, by) refl in
+    (config_field.takes bytes (c, rest) fits read).1

@@ -2,15 +2,19 @@
 use Rattle.std.specs.Prelude.{◌≡◌, ℕ, ◌-◌, Bool, ◌&&◌, ◌==◌, nat_le, if◌then◌else◌, List, length, Option, Some, None, Result, Ok, Err}
 use Rattle.std.specs.Int.{w16, w32}
 use Rattle.tcs_terms.specs.declared.limits.TheConstants.{MAX_SLOT, MAX_EPOCH, MAX_PIECES, MAX_PIECE_ROWS}
+use Rattle.tcs_terms.specs.declared.kinds.Kind.{Kind}
+use Rattle.tcs_terms.specs.declared.kinds.Kind.TheVariants as kinds
 use Rattle.tcs_terms.specs.declared.messages.Message.{Message}
 use Rattle.tcs_terms.specs.declared.messages.Message.TheVariants.{Prepare, PrepareAck, Accept, AcceptAck, DecisionFor, Probe, ProbeAck, NewConfig, NewState, ConfigChange, Last, At, Cas, Stored, OutcomeOf, Refused, StatePiece}
+use Rattle.tcs_terms.specs.Kinds.{kind_number}
 use Rattle.wire_frame.specs.declared.faults.FrameReason.{FrameReason}
-use Rattle.wire_frame.specs.declared.faults.FrameReason.TheVariants.{Kind, Range, Trailing}
+use Rattle.wire_frame.specs.declared.faults.FrameReason.TheVariants as reasons
+use Rattle.wire_frame.specs.declared.faults.FrameReason.TheVariants.{Range, Trailing}
 use Rattle.wire_frame.specs.declared.faults.DecodeFault.{DecodeFault}
 use Rattle.wire_frame.specs.declared.faults.DecodeFault.TheVariants.{Bad, OutOfMemory}
 use Rattle.wire_frame.specs.declared.faults.Fault.{Fault}
-use Rattle.wire_frame.specs.Reading.{Reads, fault_at, ◌>>=◌, byte_at, number_at, tested}
-use Rattle.wire_frame.specs.Parts.{is_up_to, epoch_at, slot_at, shard_at, txn_at, shards_at, config_at, maybe_at, entry_at, rows_at, decision_at, commit_at, why_at}
+use Rattle.wire_frame.specs.Reading.{Reads, fault_at, ◌>>=◌, number_at, tested}
+use Rattle.wire_frame.specs.Parts.{is_up_to, kind_at, epoch_at, slot_at, shard_at, txn_at, shards_at, config_at, maybe_at, entry_at, rows_at, decision_at, commit_at, why_at}
 
 unfoldable pub prepare_at : List ℕ → Reads Message
 prepare_at bytes = do
@@ -107,16 +111,12 @@ outcome_at bytes = do
   decision ← decision_at txn.1
   Ok (OutcomeOf txn.0 decision.0, decision.1)
 
--- the kind of a message
-abbrev pub is_kind : ℕ → Bool
-is_kind b = is_up_to 17 b
-
 unfoldable pub refused_at : List ℕ → Reads Message
 refused_at bytes = do
-  kind ← tested Range is_kind byte_at bytes
+  kind ← kind_at Range bytes
   why ← why_at kind.1
   mark ← number_at w32 why.1
-  Ok (Refused kind.0 why.0 mark.0, mark.1)
+  Ok (Refused (kind_number kind.0) why.0 mark.0, mark.1)
 
 -- the number of a piece
 unfoldable pub piece_at : List ℕ → Reads ℕ
@@ -135,29 +135,28 @@ state_piece_at bytes = do
   Ok (StatePiece config.0 piece.0 pieces.0 rows.0, rows.1)
 
 -- a message of this kind
-unfoldable pub body_at : ℕ → List ℕ → Reads Message
-body_at kind bytes =
-    if kind == 1 then prepare_at bytes
-    else if kind == 2 then prepare_ack_at bytes
-    else if kind == 3 then accept_at bytes
-    else if kind == 4 then accept_ack_at bytes
-    else if kind == 5 then decision_for_at bytes
-    else if kind == 6 then probe_at bytes
-    else if kind == 7 then probe_ack_at bytes
-    else if kind == 8 then new_config_at bytes
-    else if kind == 9 then new_state_at bytes
-    else if kind == 10 then config_change_at bytes
-    else if kind == 11 then last_at bytes
-    else if kind == 12 then at_at bytes
-    else if kind == 13 then cas_at bytes
-    else if kind == 14 then stored_at bytes
-    else if kind == 15 then outcome_at bytes
-    else if kind == 16 then refused_at bytes
-    else state_piece_at bytes
+unfoldable pub body_at : Kind → List ℕ → Reads Message
+body_at kinds.Prepare bytes = prepare_at bytes
+body_at kinds.PrepareAck bytes = prepare_ack_at bytes
+body_at kinds.Accept bytes = accept_at bytes
+body_at kinds.AcceptAck bytes = accept_ack_at bytes
+body_at kinds.Decision bytes = decision_for_at bytes
+body_at kinds.Probe bytes = probe_at bytes
+body_at kinds.ProbeAck bytes = probe_ack_at bytes
+body_at kinds.NewConfig bytes = new_config_at bytes
+body_at kinds.NewState bytes = new_state_at bytes
+body_at kinds.ConfigChange bytes = config_change_at bytes
+body_at kinds.Last bytes = last_at bytes
+body_at kinds.At bytes = at_at bytes
+body_at kinds.Cas bytes = cas_at bytes
+body_at kinds.Stored bytes = stored_at bytes
+body_at kinds.Outcome bytes = outcome_at bytes
+body_at kinds.Refused bytes = refused_at bytes
+body_at kinds.StatePiece bytes = state_piece_at bytes
 
 unfoldable pub message_at : List ℕ → Reads Message
 message_at bytes = do
-  kind ← tested Kind is_kind byte_at bytes
+  kind ← kind_at reasons.Kind bytes
   body_at kind.0 kind.1
 
 -- the message that the bytes spell, all of them, or the first fault from the left

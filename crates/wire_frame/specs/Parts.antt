@@ -4,6 +4,7 @@ use Rattle.std.specs.List.{list_any}
 use Rattle.std.specs.Int.{w16, w32, w64}
 use Rattle.tcs_terms.specs.declared.limits.TheConstants.{MAX_SHARDS, MAX_NODES, MAX_MEMBERS, MAX_SEQUENCE, MAX_NAME, MAX_VALUE, MAX_READS, MAX_RANGES, MAX_WRITES}
 use Rattle.tcs_terms.specs.declared.ids.TxId.{TxId}
+use Rattle.tcs_terms.specs.declared.kinds.Kind.{Kind}
 use Rattle.tcs_terms.specs.declared.payloads.ReadPart.{ReadPart}
 use Rattle.tcs_terms.specs.declared.payloads.RangePart.{RangePart}
 use Rattle.tcs_terms.specs.declared.payloads.WritePart.{WritePart}
@@ -18,6 +19,7 @@ use Rattle.tcs_terms.specs.declared.logs.Mark.TheVariants.{Undecided, Committed,
 use Rattle.tcs_terms.specs.declared.logs.Row.{Row}
 use Rattle.tcs_terms.specs.declared.messages.Why.{Why}
 use Rattle.tcs_terms.specs.declared.messages.Why.TheVariants.{Stale, Held, Full}
+use Rattle.tcs_terms.specs.Kinds.{kind_numbered}
 use Rattle.tcs_terms.specs.Objects.{is_name_byte}
 use Rattle.tcs_terms.specs.Order.{name_before}
 use Rattle.tcs_terms.specs.Payloads.{Accesses, reads_name}
@@ -25,12 +27,23 @@ use Rattle.tcs_terms.specs.Places.{Membership, is_shard, is_node, is_epoch, is_a
 use Rattle.tcs_terms.specs.Preparations.{Preparation}
 use Rattle.tcs_terms.specs.Logs.{same_txn}
 use Rattle.tcs_terms.specs.Messages.{is_slot}
+use Rattle.wire_frame.specs.declared.faults.FrameReason.{FrameReason}
 use Rattle.wire_frame.specs.declared.faults.FrameReason.TheVariants.{Range, Order, Unread}
 use Rattle.wire_frame.specs.Reading.{Reads, short, fault_at, ◌>>=◌, byte_at, number_at, run_at, tested, each_at}
 
 -- from 1 to the most
 abbrev pub is_up_to : ℕ → ℕ → Bool
 is_up_to most n = nat_le 1 n && nat_le n most
+
+-- a kind and what follows its number; a number of no kind is refused with this reason
+abbrev pub kinded : FrameReason → List ℕ → List ℕ → Option Kind → Reads Kind
+kinded reason bytes rest None = Err (fault_at reason bytes)
+kinded reason bytes rest (Some kind) = Ok (kind, rest)
+
+unfoldable pub kind_at : FrameReason → List ℕ → Reads Kind
+kind_at reason bytes = do
+  number ← byte_at bytes
+  kinded reason bytes number.1 (kind_numbered number.0)
 
 unfoldable pub epoch_at : List ℕ → Reads ℕ
 epoch_at bytes = tested Range is_epoch (number_at w32) bytes

@@ -19,6 +19,8 @@ use Rattle.tcs_terms.specs.declared.messages.Why.{Why}
 use Rattle.tcs_terms.specs.declared.messages.Why.TheVariants.{Stale, Held, Full}
 use Rattle.tcs_terms.specs.declared.messages.Message.{Message}
 use Rattle.tcs_terms.specs.declared.messages.Message.TheVariants.{Prepare, PrepareAck, Accept, AcceptAck, DecisionFor, Probe, ProbeAck, NewConfig, NewState, ConfigChange, Last, At, Cas, Stored, OutcomeOf, Refused, StatePiece}
+use Rattle.tcs_terms.specs.Kinds as Kinds
+use Rattle.tcs_terms.specs.Kinds.{kind_number}
 use Rattle.tcs_terms.specs.Payloads.{Accesses}
 use Rattle.tcs_terms.specs.Places.{Membership}
 use Rattle.tcs_terms.specs.Preparations.{Preparation}
@@ -127,25 +129,9 @@ spell_why Stale = 1
 spell_why Held = 2
 spell_why Full = 3
 
--- the first byte of a message: its kind
+-- the first byte of a message: the number of its kind
 abbrev pub kind_of : Message → ℕ
-kind_of (Prepare epoch txn shards payload) = 1
-kind_of (PrepareAck shard epoch entry) = 2
-kind_of (Accept epoch entry) = 3
-kind_of (AcceptAck shard epoch slot txn) = 4
-kind_of (DecisionFor epoch slot txn commit) = 5
-kind_of (Probe epoch) = 6
-kind_of (ProbeAck epoch state) = 7
-kind_of (NewConfig config) = 8
-kind_of (NewState config rows) = 9
-kind_of (ConfigChange config) = 10
-kind_of (Last shard) = 11
-kind_of (At shard epoch) = 12
-kind_of (Cas config) = 13
-kind_of (Stored config) = 14
-kind_of (OutcomeOf txn decision) = 15
-kind_of (Refused kind why mark) = 16
-kind_of (StatePiece config piece pieces rows) = 17
+kind_of m = kind_number (Kinds.kind_of m)
 
 -- the bytes of a message after its kind
 abbrev pub spell_rest : Message → List ℕ

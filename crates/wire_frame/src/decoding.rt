@@ -2,55 +2,45 @@
 ghost use Rattle.std.specs.Prelude.{◌≡◌, Ok, IfOk};
 ghost use Rattle.tcs_terms.specs.declared.messages.Message.{Message};
 ghost use Rattle.tcs_terms.specs.Messages.{InRange};
-ghost use Rattle.wire_frame.specs.declared.faults.FrameReason.TheVariants.{Kind};
 ghost use Rattle.wire_frame.specs.Spelling.{spell};
-ghost use Rattle.wire_frame.specs.Reading.{Gives, byte_at, tested};
-ghost use Rattle.wire_frame.specs.Frames.{is_kind, body_at, message_at, read_frame, Decodes, IsMemoryOr};
+ghost use Rattle.wire_frame.specs.Reading.{Gives};
+ghost use Rattle.wire_frame.specs.Frames.{body_at, message_at, read_frame, Decodes, IsMemoryOr};
 
 use crate::faults::{DecodeFault, FrameReason, ReadError};
+use crate::kinds::kind_of;
 use crate::messages::{
     accept_ack_of, accept_of, at_of, cas_of, config_change_of, decision_for_of, last_of,
     new_config_of, outcome_of, prepare_ack_of, prepare_of, probe_ack_of, probe_of, refused_of,
     stored_of,
 };
-use crate::numbers::{bad_at, byte_of, is_up_to};
+use crate::numbers::bad_at;
 use crate::states::{new_state_of, state_piece_of};
 use std::alloc::Global;
-use tcs_terms::Message;
-
-fn kind_of(bytes: &[u8]) -> Result<(u8, &[u8]), ReadError>
-    ensures { Gives (λ x. (x.0, x.1.now)) result (tested Kind is_kind byte_at bytes.now) }
-{
-    let (kind, rest) = byte_of(bytes)?;
-    if !is_up_to(17, kind as u32) {
-        return Err(bad_at(FrameReason::Kind, bytes));
-    }
-    Ok((kind, rest))
-}
+use tcs_terms::{Kind, Message};
 
 /// A message of this kind.
 #[tactic(auto, unfolding(crate::specs::Frames::body_at))]
-fn body_of(alloc: Global, kind: u8, bytes: &[u8]) -> Result<(Message, &[u8]), ReadError>
+fn body_of(alloc: Global, kind: Kind, bytes: &[u8]) -> Result<(Message, &[u8]), ReadError>
     ensures { Gives (λ x. (x.0, x.1.now)) result (body_at kind bytes.now) }
 {
     match kind {
-        1 => prepare_of(alloc, bytes),
-        2 => prepare_ack_of(alloc, bytes),
-        3 => accept_of(alloc, bytes),
-        4 => accept_ack_of(bytes),
-        5 => decision_for_of(bytes),
-        6 => probe_of(bytes),
-        7 => probe_ack_of(bytes),
-        8 => new_config_of(alloc, bytes),
-        9 => new_state_of(alloc, bytes),
-        10 => config_change_of(alloc, bytes),
-        11 => last_of(bytes),
-        12 => at_of(bytes),
-        13 => cas_of(alloc, bytes),
-        14 => stored_of(alloc, bytes),
-        15 => outcome_of(bytes),
-        16 => refused_of(bytes),
-        _ => state_piece_of(alloc, bytes),
+        Kind::Prepare => prepare_of(alloc, bytes),
+        Kind::PrepareAck => prepare_ack_of(alloc, bytes),
+        Kind::Accept => accept_of(alloc, bytes),
+        Kind::AcceptAck => accept_ack_of(bytes),
+        Kind::Decision => decision_for_of(bytes),
+        Kind::Probe => probe_of(bytes),
+        Kind::ProbeAck => probe_ack_of(bytes),
+        Kind::NewConfig => new_config_of(bytes),
+        Kind::NewState => new_state_of(alloc, bytes),
+        Kind::ConfigChange => config_change_of(bytes),
+        Kind::Last => last_of(bytes),
+        Kind::At => at_of(bytes),
+        Kind::Cas => cas_of(bytes),
+        Kind::Stored => stored_of(bytes),
+        Kind::Outcome => outcome_of(bytes),
+        Kind::Refused => refused_of(bytes),
+        Kind::StatePiece => state_piece_of(alloc, bytes),
     }
 }
 
@@ -58,7 +48,7 @@ fn body_of(alloc: Global, kind: u8, bytes: &[u8]) -> Result<(Message, &[u8]), Re
 fn message_of(alloc: Global, bytes: &[u8]) -> Result<(Message, &[u8]), ReadError>
     ensures { Gives (λ x. (x.0, x.1.now)) result (message_at bytes.now) }
 {
-    let (kind, rest) = kind_of(bytes)?;
+    let (kind, rest) = kind_of(FrameReason::Kind, bytes)?;
     body_of(alloc, kind, rest)
 }
 

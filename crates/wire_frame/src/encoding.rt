@@ -1,12 +1,11 @@
 //! Messages to bytes.
-ghost use Rattle.std.specs.Prelude.{◌≡◌, ◌++◌, ◌∷◌, [], IfOk, OnOk, OnErr, Option};
-ghost use Rattle.tcs_terms.specs.Payloads.{Accesses};
+ghost use Rattle.std.specs.Prelude.{◌≡◌, ◌++◌, ◌∷◌, [], IfOk, OnOk, OnErr};
+ghost use Rattle.tcs_terms.specs.Appends.{Begins};
 ghost use Rattle.wire_frame.specs.Spelling.{two, four, counted, spell_txn, spell_maybe, spell_entry, spell_rows, spell_config, spell_commit, spell_why, spell_rest, spell};
 
+use crate::buffer::{put_byte, put_u16, put_u32};
 use crate::kinds::kind;
-use crate::parts::{
-    put_config, put_decision, put_entry, put_maybe, put_rows, put_shards, put_txn, put_u16, put_u32,
-};
+use crate::parts::{put_config, put_decision, put_entry, put_maybe, put_rows, put_shards, put_txn};
 use crate::room::room_of;
 use std::alloc::Global;
 use tcs_terms::{
@@ -20,7 +19,8 @@ fn put_prepare(
     shards: &ShardSet,
     payload: &Option<Payload>,
 ) -> Result<(), OutOfMemory>
-    ensures { OnOk result (out.new.items ≡ out.old.items ++ (four epoch ++ spell_txn txn ++ counted shards.now ++ spell_maybe payload.now)) }
+    ensures ok { OnOk result (out.new.items ≡ out.old.items ++ (four epoch ++ spell_txn txn ++ counted shards.now ++ spell_maybe payload.now)) }
+    ensures err { OnErr result (Begins out.old.items out.new.items) }
 {
     put_u32(out, epoch)?;
     put_txn(out, txn)?;
@@ -34,15 +34,17 @@ fn put_ack(
     epoch: Epoch,
     entry: &Entry,
 ) -> Result<(), OutOfMemory>
-    ensures { OnOk result (out.new.items ≡ out.old.items ++ shard ∷ four epoch ++ spell_entry entry.now) }
+    ensures ok { OnOk result (out.new.items ≡ out.old.items ++ shard ∷ four epoch ++ spell_entry entry.now) }
+    ensures err { OnErr result (Begins out.old.items out.new.items) }
 {
-    out.push(shard)?;
+    put_byte(out, shard)?;
     put_u32(out, epoch)?;
     put_entry(out, entry)
 }
 
 fn put_place(out: &mut Vec<u8>, epoch: Epoch, slot: Slot, txn: TxId) -> Result<(), OutOfMemory>
-    ensures { OnOk result (out.new.items ≡ out.old.items ++ (four epoch ++ two slot ++ spell_txn txn)) }
+    ensures ok { OnOk result (out.new.items ≡ out.old.items ++ (four epoch ++ two slot ++ spell_txn txn)) }
+    ensures err { OnErr result (Begins out.old.items out.new.items) }
 {
     put_u32(out, epoch)?;
     put_u16(out, slot)?;
@@ -56,7 +58,8 @@ fn put_piece(
     pieces: u16,
     rows: &Rows,
 ) -> Result<(), OutOfMemory>
-    ensures { OnOk result (out.new.items ≡ out.old.items ++ (spell_config config.now ++ two piece ++ two pieces ++ spell_rows rows.now)) }
+    ensures ok { OnOk result (out.new.items ≡ out.old.items ++ (spell_config config.now ++ two piece ++ two pieces ++ spell_rows rows.now)) }
+    ensures err { OnErr result (Begins out.old.items out.new.items) }
 {
     put_config(out, config)?;
     put_u16(out, piece)?;
@@ -81,7 +84,8 @@ fn why_byte(why: Why) -> u8
 }
 
 fn put_rest(out: &mut Vec<u8>, message: &Message) -> Result<(), OutOfMemory>
-    ensures { OnOk result (out.new.items ≡ out.old.items ++ spell_rest message.now) }
+    ensures ok { OnOk result (out.new.items ≡ out.old.items ++ spell_rest message.now) }
+    ensures err { OnErr result (Begins out.old.items out.new.items) }
 {
     match message {
         Message::Prepare {
@@ -105,7 +109,7 @@ fn put_rest(out: &mut Vec<u8>, message: &Message) -> Result<(), OutOfMemory>
             slot,
             txn,
         } => {
-            out.push(*shard)?;
+            put_byte(out, *shard)?;
             put_place(out, *epoch, *slot, *txn)
         }
         Message::DecisionFor {
@@ -115,7 +119,7 @@ fn put_rest(out: &mut Vec<u8>, message: &Message) -> Result<(), OutOfMemory>
             commit,
         } => {
             put_place(out, *epoch, *slot, *txn)?;
-            Ok(out.push(commit_byte(*commit))?)
+            put_byte(out, commit_byte(*commit))
         }
         Message::Probe { epoch } => put_u32(out, *epoch),
         Message::ProbeAck { epoch, state } => {
@@ -128,9 +132,9 @@ fn put_rest(out: &mut Vec<u8>, message: &Message) -> Result<(), OutOfMemory>
             put_rows(out, rows)
         }
         Message::ConfigChange { config } => put_config(out, config),
-        Message::Last { shard } => Ok(out.push(*shard)?),
+        Message::Last { shard } => put_byte(out, *shard),
         Message::At { shard, epoch } => {
-            out.push(*shard)?;
+            put_byte(out, *shard)?;
             put_u32(out, *epoch)
         }
         Message::Cas { config } => put_config(out, config),
@@ -140,8 +144,8 @@ fn put_rest(out: &mut Vec<u8>, message: &Message) -> Result<(), OutOfMemory>
             put_decision(out, *decision)
         }
         Message::Refused { kind, why, mark } => {
-            out.push(*kind)?;
-            out.push(why_byte(*why))?;
+            put_byte(out, *kind)?;
+            put_byte(out, why_byte(*why))?;
             put_u32(out, *mark)
         }
         Message::StatePiece {
@@ -153,23 +157,35 @@ fn put_rest(out: &mut Vec<u8>, message: &Message) -> Result<(), OutOfMemory>
     }
 }
 
-/// The frame of a message.
 #[tactic(auto, unfolding(crate::specs::Spelling::spell))]
+fn put_message(out: &mut Vec<u8>, message: &Message) -> Result<(), OutOfMemory>
+    ensures ok { OnOk result (out.new.items ≡ out.old.items ++ spell message.now) }
+    ensures err { OnErr result (Begins out.old.items out.new.items) }
+{
+    put_byte(out, kind(message))?;
+    put_rest(out, message)
+}
+
+/// The frame of a message.
 pub fn encode(alloc: Global, message: &Message) -> Result<Vec<u8>, OutOfMemory>
     ensures { IfOk result (λ frame. frame.items ≡ spell message.now) }
 {
     let mut out = Vec::with_capacity(alloc, room_of(message))?;
-    out.push(kind(message))?;
-    put_rest(&mut out, message)?;
+    put_message(&mut out, message)?;
     Ok(out)
 }
 
-/// Writes the frame of a message at the end of a buffer. An `Err` leaves the buffer as it was.
+/// Writes the frame of a message behind what a buffer holds. An `Err` leaves the buffer as it was.
 pub fn encode_into(message: &Message, out: &mut Vec<u8>) -> Result<(), OutOfMemory>
     ensures ok { OnOk result (out.new.items ≡ out.old.items ++ spell message.now) }
     ensures err { OnErr result (out.new.items ≡ out.old.items) }
 {
-    let frame = encode(*out.allocator(), message)?;
-    out.extend_from_slice(&frame)?;
-    Ok(())
+    let held = out.len();
+    match put_message(out, message) {
+        Ok(()) => Ok(()),
+        Err(OutOfMemory) => {
+            out.truncate(held);
+            Err(OutOfMemory)
+        }
+    }
 }

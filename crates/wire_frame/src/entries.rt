@@ -39,7 +39,7 @@ pub fn entry_of(alloc: Global, bytes: &[u8]) -> Result<(Entry, &[u8]), ReadError
 {
     let (slot, rest) = slot_of(bytes)?;
     let (txn, rest) = txn_of(rest)?;
-    let (shards, rest) = shards_of(alloc, rest)?;
+    let (shards, rest) = shards_of(rest)?;
     let ((payload, vote), rest) = vote_of(alloc, rest)?;
     let entry = Entry {
         slot,

@@ -1,6 +1,7 @@
 //! Messages as frames of bytes: each message has one spelling, and each frame that is none has a first fault.
 #![tactic(auto)]
 
+mod buffer;
 mod configurations;
 mod decoding;
 mod encoding;

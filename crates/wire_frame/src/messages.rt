@@ -1,15 +1,13 @@
 //! Reads a message of each kind.
 ghost use Rattle.std.specs.Prelude.{◌≡◌};
-ghost use Rattle.wire_frame.specs.declared.faults.FrameReason.TheVariants.{Range};
-ghost use Rattle.wire_frame.specs.Reading.{Gives, byte_at, tested};
-ghost use Rattle.wire_frame.specs.Frames.{is_kind, state_at, piece_at, pieces_at, prepare_at, prepare_ack_at, accept_at, accept_ack_at, decision_for_at, probe_at, probe_ack_at, new_config_at, config_change_at, last_at, at_at, cas_at, stored_at, outcome_at, refused_at};
+ghost use Rattle.wire_frame.specs.Reading.{Gives};
+ghost use Rattle.wire_frame.specs.Frames.{state_at, piece_at, pieces_at, prepare_at, prepare_ack_at, accept_at, accept_ack_at, decision_for_at, probe_at, probe_ack_at, new_config_at, config_change_at, last_at, at_at, cas_at, stored_at, outcome_at, refused_at};
 
 use crate::configurations::{config_of, shards_of};
 use crate::entries::{commit_of, decision_of, entry_of, why_of};
 use crate::faults::{FrameReason, ReadError};
-use crate::numbers::{
-    bad_at, byte_of, epoch_of, is_up_to, shard_of, slot_of, txn_of, u16_of, u32_of,
-};
+use crate::kinds::kind_of;
+use crate::numbers::{bad_at, epoch_of, is_up_to, shard_of, slot_of, txn_of, u16_of, u32_of};
 use crate::payloads::maybe_of;
 use std::alloc::Global;
 use tcs_terms::limits::{MAX_EPOCH, MAX_PIECES};
@@ -21,7 +19,7 @@ pub fn prepare_of(alloc: Global, bytes: &[u8]) -> Result<(Message, &[u8]), ReadE
 {
     let (epoch, rest) = epoch_of(bytes)?;
     let (txn, rest) = txn_of(rest)?;
-    let (shards, rest) = shards_of(alloc, rest)?;
+    let (shards, rest) = shards_of(rest)?;
     let (payload, rest) = maybe_of(alloc, rest)?;
     let message = Message::Prepare {
         epoch,
@@ -120,18 +118,18 @@ pub fn probe_ack_of(bytes: &[u8]) -> Result<(Message, &[u8]), ReadError>
 }
 
 #[tactic(auto, unfolding(crate::specs::Frames::new_config_at))]
-pub fn new_config_of(alloc: Global, bytes: &[u8]) -> Result<(Message, &[u8]), ReadError>
+pub fn new_config_of(bytes: &[u8]) -> Result<(Message, &[u8]), ReadError>
     ensures { Gives (λ x. (x.0, x.1.now)) result (new_config_at bytes.now) }
 {
-    let (config, rest) = config_of(alloc, bytes)?;
+    let (config, rest) = config_of(bytes)?;
     Ok((Message::NewConfig { config }, rest))
 }
 
 #[tactic(auto, unfolding(crate::specs::Frames::config_change_at))]
-pub fn config_change_of(alloc: Global, bytes: &[u8]) -> Result<(Message, &[u8]), ReadError>
+pub fn config_change_of(bytes: &[u8]) -> Result<(Message, &[u8]), ReadError>
     ensures { Gives (λ x. (x.0, x.1.now)) result (config_change_at bytes.now) }
 {
-    let (config, rest) = config_of(alloc, bytes)?;
+    let (config, rest) = config_of(bytes)?;
     Ok((Message::ConfigChange { config }, rest))
 }
 
@@ -153,18 +151,18 @@ pub fn at_of(bytes: &[u8]) -> Result<(Message, &[u8]), ReadError>
 }
 
 #[tactic(auto, unfolding(crate::specs::Frames::cas_at))]
-pub fn cas_of(alloc: Global, bytes: &[u8]) -> Result<(Message, &[u8]), ReadError>
+pub fn cas_of(bytes: &[u8]) -> Result<(Message, &[u8]), ReadError>
     ensures { Gives (λ x. (x.0, x.1.now)) result (cas_at bytes.now) }
 {
-    let (config, rest) = config_of(alloc, bytes)?;
+    let (config, rest) = config_of(bytes)?;
     Ok((Message::Cas { config }, rest))
 }
 
 #[tactic(auto, unfolding(crate::specs::Frames::stored_at))]
-pub fn stored_of(alloc: Global, bytes: &[u8]) -> Result<(Message, &[u8]), ReadError>
+pub fn stored_of(bytes: &[u8]) -> Result<(Message, &[u8]), ReadError>
     ensures { Gives (λ x. (x.0, x.1.now)) result (stored_at bytes.now) }
 {
-    let (config, rest) = config_of(alloc, bytes)?;
+    let (config, rest) = config_of(bytes)?;
     Ok((Message::Stored { config }, rest))
 }
 
@@ -177,25 +175,19 @@ pub fn outcome_of(bytes: &[u8]) -> Result<(Message, &[u8]), ReadError>
     Ok((Message::OutcomeOf { txn, decision }, rest))
 }
 
-/// The kind of a message that was refused.
-fn refused_kind(bytes: &[u8]) -> Result<(u8, &[u8]), ReadError>
-    ensures { Gives (λ x. (x.0, x.1.now)) result (tested Range is_kind byte_at bytes.now) }
-{
-    let (kind, rest) = byte_of(bytes)?;
-    if !is_up_to(17, kind as u32) {
-        return Err(bad_at(FrameReason::Range, bytes));
-    }
-    Ok((kind, rest))
-}
-
 #[tactic(auto, unfolding(crate::specs::Frames::refused_at))]
 pub fn refused_of(bytes: &[u8]) -> Result<(Message, &[u8]), ReadError>
     ensures { Gives (λ x. (x.0, x.1.now)) result (refused_at bytes.now) }
 {
-    let (kind, rest) = refused_kind(bytes)?;
+    let (kind, rest) = kind_of(FrameReason::Range, bytes)?;
     let (why, rest) = why_of(rest)?;
     let (mark, rest) = u32_of(rest)?;
-    Ok((Message::Refused { kind, why, mark }, rest))
+    let message = Message::Refused {
+        kind: kind.number(),
+        why,
+        mark,
+    };
+    Ok((message, rest))
 }
 
 /// The number of a piece.

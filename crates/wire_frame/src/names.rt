@@ -1,37 +1,14 @@
 //! Reads names and values.
-ghost use Rattle.std.specs.Prelude.{◌≡◌, not, position, IfOk};
-ghost use Rattle.tcs_terms.specs.Objects.{is_name_byte, IsName};
-ghost use Rattle.tcs_terms.specs.Order.{name_before};
+ghost use Rattle.std.specs.Prelude.{◌≡◌, IfOk};
+ghost use Rattle.tcs_terms.specs.Objects.{IsName};
 ghost use Rattle.wire_frame.specs.Reading.{Gives};
 ghost use Rattle.wire_frame.specs.Parts.{name_at, name_above, value_at};
 
 use crate::faults::{Fault, FrameReason, ReadError};
 use crate::numbers::{bad_at, byte_of, run_of};
 use crate::sets::up_to;
-use std::alloc::Global;
 use tcs_terms::limits::{MAX_NAME, MAX_VALUE};
-use tcs_terms::{Name, NameFault, OutOfMemory, Value, ValueFault};
-
-/// Whether a byte may stand in a name.
-fn is_name_byte(byte: u8) -> bool
-    ensures { result ≡ is_name_byte byte }
-{
-    matches!(byte, b'a'..=b'z' | b'0'..=b'9' | b'_')
-}
-
-/// The place of the first byte that may not stand in a name.
-fn strange_byte(bytes: &[u8]) -> Option<usize>
-    ensures { result ≡ position (λ b. not (is_name_byte b)) bytes.now }
-{
-    bytes.iter().position(|byte| !is_name_byte(*byte))
-}
-
-/// Whether the first name stands before the second, by bytes.
-pub fn name_before(first: &[u8], second: &[u8]) -> bool
-    ensures { result ≡ name_before first.now second.now }
-{
-    first.cmp(second).is_lt()
-}
+use tcs_terms::{Value, name_before, strange_byte};
 
 #[tactic(auto, unfolding(crate::specs::Parts::name_at))]
 fn letters_of(bytes: &[u8]) -> Result<(&[u8], &[u8]), ReadError>
@@ -69,20 +46,8 @@ pub fn name_after<'a>(last: &[u8], bytes: &'a [u8]) -> Result<(&'a [u8], &'a [u8
     Ok((name, rest))
 }
 
-/// The name of these bytes.
-pub fn named(alloc: Global, bytes: &[u8]) -> Result<Name, OutOfMemory>
-    requires { IsName bytes.now }
-    ensures { IfOk result (λ n. n ≡ bytes.now) }
-{
-    match Name::build(alloc, bytes) {
-        Ok(name) => Ok(name),
-        Err(NameFault::OutOfMemory) => Err(OutOfMemory),
-        Err(NameFault::Bad(_)) => unreachable!(),
-    }
-}
-
 #[tactic(auto, unfolding(crate::specs::Parts::value_at))]
-pub fn value_of(alloc: Global, bytes: &[u8]) -> Result<(Value, &[u8]), ReadError>
+pub fn value_of(bytes: &[u8]) -> Result<(Value, &[u8]), ReadError>
     ensures { Gives (λ x. (x.0, x.1.now)) result (value_at bytes.now) }
 {
     let (count, rest) = byte_of(bytes)?;
@@ -90,9 +55,5 @@ pub fn value_of(alloc: Global, bytes: &[u8]) -> Result<(Value, &[u8]), ReadError
         return Err(bad_at(FrameReason::Range, bytes));
     }
     let (value, rest) = run_of(count as usize, rest)?;
-    match Value::build(alloc, value) {
-        Ok(value) => Ok((value, rest)),
-        Err(ValueFault::OutOfMemory) => Err(ReadError::Memory),
-        Err(ValueFault::TooLong(_)) => unreachable!(),
-    }
+    Ok((Value::of(value), rest))
 }

@@ -1,49 +1,37 @@
 //! Writes a payload at the end of a buffer, part by part.
-ghost use Rattle.std.specs.Prelude.{◌≡◌, ◌<◌, ◌≤◌, ◌++◌, length, OnOk};
+ghost use Rattle.std.specs.Prelude.{◌≡◌, ◌<◌, ◌≤◌, ◌++◌, length, OnOk, OnErr};
 ghost use Rattle.std.specs.List.{flat_map};
-ghost use Rattle.wire_frame.specs.Spelling.{counted, eight, spell_read, spell_range, spell_ranges, spell_write, reads_byte, spell_payload};
+ghost use Rattle.tcs_terms.specs.Appends.{Begins};
+ghost use Rattle.wire_frame.specs.Spelling.{counted, spell_read, spell_range, spell_ranges, spell_write, reads_byte, spell_payload};
 
+use crate::buffer::{put_byte, put_counted, put_u64};
 use tcs_terms::{Name, OutOfMemory, Payload, RangePart, ReadPart, Value, WritePart};
 
-/// One byte for how many bytes there are, and the bytes.
-pub fn put_counted(out: &mut Vec<u8>, bytes: &[u8]) -> Result<(), OutOfMemory>
-    requires { length bytes.now < 256 }
-    ensures { OnOk result (out.new.items ≡ out.old.items ++ counted bytes.now) }
-{
-    out.push(bytes.len() as u8)?;
-    out.extend_from_slice(bytes)?;
-    Ok(())
-}
-
 fn put_name(out: &mut Vec<u8>, name: &Name) -> Result<(), OutOfMemory>
-    ensures { OnOk result (out.new.items ≡ out.old.items ++ counted name.now) }
+    ensures ok { OnOk result (out.new.items ≡ out.old.items ++ counted name.now) }
+    ensures err { OnErr result (Begins out.old.items out.new.items) }
 {
     put_counted(out, name.bytes())
 }
 
 fn put_value(out: &mut Vec<u8>, value: &Value) -> Result<(), OutOfMemory>
-    ensures { OnOk result (out.new.items ≡ out.old.items ++ counted value.now) }
+    ensures ok { OnOk result (out.new.items ≡ out.old.items ++ counted value.now) }
+    ensures err { OnErr result (Begins out.old.items out.new.items) }
 {
     put_counted(out, value.bytes())
 }
 
-#[tactic(auto, unfolding(crate::specs::Spelling::eight))]
-fn put_u64(out: &mut Vec<u8>, number: u64) -> Result<(), OutOfMemory>
-    ensures { OnOk result (out.new.items ≡ out.old.items ++ eight number) }
-{
-    out.extend_from_slice(&number.to_be_bytes())?;
-    Ok(())
-}
-
 fn put_read(out: &mut Vec<u8>, read: &ReadPart) -> Result<(), OutOfMemory>
-    ensures { OnOk result (out.new.items ≡ out.old.items ++ spell_read read.now) }
+    ensures ok { OnOk result (out.new.items ≡ out.old.items ++ spell_read read.now) }
+    ensures err { OnErr result (Begins out.old.items out.new.items) }
 {
     put_name(out, &read.name)?;
     put_u64(out, read.version)
 }
 
 fn put_range(out: &mut Vec<u8>, range: &RangePart) -> Result<(), OutOfMemory>
-    ensures { OnOk result (out.new.items ≡ out.old.items ++ spell_range range.now) }
+    ensures ok { OnOk result (out.new.items ≡ out.old.items ++ spell_range range.now) }
+    ensures err { OnErr result (Begins out.old.items out.new.items) }
 {
     put_name(out, &range.from)?;
     put_name(out, &range.upto)?;
@@ -51,14 +39,16 @@ fn put_range(out: &mut Vec<u8>, range: &RangePart) -> Result<(), OutOfMemory>
 }
 
 fn put_write(out: &mut Vec<u8>, write: &WritePart) -> Result<(), OutOfMemory>
-    ensures { OnOk result (out.new.items ≡ out.old.items ++ spell_write write.now) }
+    ensures ok { OnOk result (out.new.items ≡ out.old.items ++ spell_write write.now) }
+    ensures err { OnErr result (Begins out.old.items out.new.items) }
 {
     put_name(out, &write.name)?;
     put_value(out, &write.value)
 }
 
 fn put_reads(out: &mut Vec<u8>, reads: &[ReadPart]) -> Result<(), OutOfMemory>
-    ensures { OnOk result (out.new.items ≡ out.old.items ++ flat_map spell_read reads.now) }
+    ensures ok { OnOk result (out.new.items ≡ out.old.items ++ flat_map spell_read reads.now) }
+    ensures err { OnErr result (Begins out.old.items out.new.items) }
 {
     for read in reads {
         put_read(out, read)?;
@@ -67,7 +57,8 @@ fn put_reads(out: &mut Vec<u8>, reads: &[ReadPart]) -> Result<(), OutOfMemory>
 }
 
 fn put_each_range(out: &mut Vec<u8>, ranges: &[RangePart]) -> Result<(), OutOfMemory>
-    ensures { OnOk result (out.new.items ≡ out.old.items ++ flat_map spell_range ranges.now) }
+    ensures ok { OnOk result (out.new.items ≡ out.old.items ++ flat_map spell_range ranges.now) }
+    ensures err { OnErr result (Begins out.old.items out.new.items) }
 {
     for range in ranges {
         put_range(out, range)?;
@@ -77,19 +68,21 @@ fn put_each_range(out: &mut Vec<u8>, ranges: &[RangePart]) -> Result<(), OutOfMe
 
 fn put_ranges(out: &mut Vec<u8>, ranges: &[RangePart]) -> Result<(), OutOfMemory>
     requires { length ranges.now < 256 }
-    ensures { OnOk result (out.new.items ≡ out.old.items ++ spell_ranges ranges.now) }
+    ensures ok { OnOk result (out.new.items ≡ out.old.items ++ spell_ranges ranges.now) }
+    ensures err { OnErr result (Begins out.old.items out.new.items) }
 {
     match ranges {
         [] => Ok(()),
         [_, ..] => {
-            out.push(ranges.len() as u8)?;
+            put_byte(out, ranges.len() as u8)?;
             put_each_range(out, ranges)
         }
     }
 }
 
 fn put_writes(out: &mut Vec<u8>, writes: &[WritePart]) -> Result<(), OutOfMemory>
-    ensures { OnOk result (out.new.items ≡ out.old.items ++ flat_map spell_write writes.now) }
+    ensures ok { OnOk result (out.new.items ≡ out.old.items ++ flat_map spell_write writes.now) }
+    ensures err { OnErr result (Begins out.old.items out.new.items) }
 {
     for write in writes {
         put_write(out, write)?;
@@ -109,12 +102,13 @@ fn reads_byte(reads: &[ReadPart], ranges: &[RangePart]) -> u8
 
 #[tactic(auto, unfolding(crate::specs::Spelling::spell_payload))]
 pub fn put_payload(out: &mut Vec<u8>, payload: &Payload) -> Result<(), OutOfMemory>
-    ensures { OnOk result (out.new.items ≡ out.old.items ++ spell_payload payload.now) }
+    ensures ok { OnOk result (out.new.items ≡ out.old.items ++ spell_payload payload.now) }
+    ensures err { OnErr result (Begins out.old.items out.new.items) }
 {
     put_u64(out, payload.version())?;
-    out.push(reads_byte(payload.reads(), payload.ranges()))?;
+    put_byte(out, reads_byte(payload.reads(), payload.ranges()))?;
     put_reads(out, payload.reads())?;
     put_ranges(out, payload.ranges())?;
-    out.push(payload.writes().len() as u8)?;
+    put_byte(out, payload.writes().len() as u8)?;
     put_writes(out, payload.writes())
 }

@@ -1,19 +1,18 @@
 //! Reads payloads.
-ghost use Rattle.std.specs.Prelude.{◌≡◌, List, ℕ, [], IfOk};
-ghost use Rattle.tcs_terms.specs.Payloads.{Accesses, same_name, reads_name};
-ghost use Rattle.std.specs.Prelude.{nat_le};
+ghost use Rattle.std.specs.Prelude.{◌≡◌, nat_le, [], IfOk};
+ghost use Rattle.tcs_terms.specs.Payloads.{reads_name};
 ghost use Rattle.std.specs.Int.{w64};
 ghost use Rattle.wire_frame.specs.declared.faults.FrameReason.TheVariants.{Range};
 ghost use Rattle.wire_frame.specs.Reading.{Gives, byte_at, number_at, tested, each_at};
 ghost use Rattle.wire_frame.specs.Parts.{seen_at, read_at, range_at, write_at, is_reads_byte, reads_count, has_ranges, reads_at, ranges_at, writes_at, payload_at, maybe_at};
 
 use crate::faults::{FrameReason, ReadError};
-use crate::names::{name_after, name_before, name_of, named, value_of};
+use crate::names::{name_after, name_of, value_of};
 use crate::numbers::{bad_at, byte_of, is_up_to, u64_of};
 use crate::sets::up_to;
 use std::alloc::Global;
 use tcs_terms::limits::{MAX_RANGES, MAX_READS, MAX_WRITES};
-use tcs_terms::{Payload, RangePart, ReadPart, WritePart};
+use tcs_terms::{Name, Payload, RangePart, ReadPart, WritePart, name_before, same_name};
 
 /// A version that was read, below the commit version.
 #[tactic(auto, unfolding(crate::specs::Parts::seen_at))]
@@ -30,7 +29,6 @@ fn seen_of(version: u64, bytes: &[u8]) -> Result<(u64, &[u8]), ReadError>
 /// A read, the bytes of its name, and what follows.
 #[tactic(auto, unfolding(crate::specs::Parts::read_at))]
 fn read_of<'a>(
-    alloc: Global,
     version: u64,
     last: &[u8],
     bytes: &'a [u8],
@@ -41,7 +39,7 @@ fn read_of<'a>(
     let (name, rest) = name_after(last, bytes)?;
     let (seen, rest) = seen_of(version, rest)?;
     let read = ReadPart {
-        name: named(alloc, name)?,
+        name: Name::of(name),
         version: seen,
     };
     Ok((read, name, rest))
@@ -50,7 +48,6 @@ fn read_of<'a>(
 /// A range, the bytes of its end, and what follows.
 #[tactic(auto, unfolding(crate::specs::Parts::range_at))]
 fn range_of<'a>(
-    alloc: Global,
     version: u64,
     last: &[u8],
     bytes: &'a [u8],
@@ -65,18 +62,11 @@ fn range_of<'a>(
     let (upto, rest) = name_after(from, rest)?;
     let (seen, rest) = seen_of(version, rest)?;
     let range = RangePart {
-        from: named(alloc, from)?,
-        upto: named(alloc, upto)?,
+        from: Name::of(from),
+        upto: Name::of(upto),
         version: seen,
     };
     Ok((range, upto, rest))
-}
-
-/// Whether two names are one.
-fn same_name(first: &[u8], second: &[u8]) -> bool
-    ensures { result ≡ same_name first.now second.now }
-{
-    first == second
 }
 
 /// Whether an object is read by name.
@@ -89,7 +79,6 @@ fn reads_name(reads: &[ReadPart], name: &[u8]) -> bool
 /// A write, the bytes of its name, and what follows.
 #[tactic(auto, unfolding(crate::specs::Parts::write_at))]
 fn write_of<'a>(
-    alloc: Global,
     reads: &[ReadPart],
     last: &[u8],
     bytes: &'a [u8],
@@ -101,9 +90,9 @@ fn write_of<'a>(
     if !reads_name(reads, name) {
         return Err(bad_at(FrameReason::Unread, bytes));
     }
-    let (value, rest) = value_of(alloc, rest)?;
+    let (value, rest) = value_of(rest)?;
     let write = WritePart {
-        name: named(alloc, name)?,
+        name: Name::of(name),
         value,
     };
     Ok((write, name, rest))
@@ -118,11 +107,11 @@ fn reads_of(
 ) -> Result<(Vec<ReadPart>, &[u8]), ReadError>
     ensures { Gives (λ x. (x.0.items, x.1.now)) result (reads_at version count bytes.now) }
 {
-    let mut reads = Vec::new(alloc);
+    let mut reads = Vec::with_capacity(alloc, count as usize)?;
     let mut last: &[u8] = &[];
     let mut rest = bytes;
     for _ in 0..count {
-        let (read, name, after) = read_of(alloc, version, last, rest)?;
+        let (read, name, after) = read_of(version, last, rest)?;
         reads.push(read)?;
         last = name;
         rest = after;
@@ -138,11 +127,11 @@ fn each_range(
 ) -> Result<(Vec<RangePart>, &[u8]), ReadError>
     ensures { Gives (λ x. (x.0.items, x.1.now)) result (each_at (range_at version) (λ last q. q.upto) count [] bytes.now) }
 {
-    let mut ranges = Vec::new(alloc);
+    let mut ranges = Vec::with_capacity(alloc, count as usize)?;
     let mut last: &[u8] = &[];
     let mut rest = bytes;
     for _ in 0..count {
-        let (range, name, after) = range_of(alloc, version, last, rest)?;
+        let (range, name, after) = range_of(version, last, rest)?;
         ranges.push(range)?;
         last = name;
         rest = after;
@@ -158,11 +147,11 @@ fn each_write<'a>(
 ) -> Result<(Vec<WritePart>, &'a [u8]), ReadError>
     ensures { Gives (λ x. (x.0.items, x.1.now)) result (each_at (write_at reads.now) (λ last w. w.name) count [] bytes.now) }
 {
-    let mut writes = Vec::new(alloc);
+    let mut writes = Vec::with_capacity(alloc, count as usize)?;
     let mut last: &[u8] = &[];
     let mut rest = bytes;
     for _ in 0..count {
-        let (write, name, after) = write_of(alloc, reads, last, rest)?;
+        let (write, name, after) = write_of(reads, last, rest)?;
         writes.push(write)?;
         last = name;
         rest = after;
@@ -242,51 +231,16 @@ fn reads_count(byte: u8) -> u8
     if has_ranges(byte) { byte - 32 } else { byte }
 }
 
-/// What a payload is built of.
-#[derive(Drop)]
-struct PayloadParts {
-    reads: Vec<ReadPart>,
-    ranges: Vec<RangePart>,
-    writes: Vec<WritePart>,
-    version: u64,
-}
-
 #[tactic(auto, unfolding(crate::specs::Parts::payload_at))]
-fn payload_parts(alloc: Global, bytes: &[u8]) -> Result<(PayloadParts, &[u8]), ReadError>
-    ensures { Gives {Y = Accesses × List ℕ} (λ x. (
-      record {
-        reads = x.0.reads.items;
-        ranges = x.0.ranges.items;
-        writes = x.0.writes.items;
-        version = x.0.version;
-      },
-      x.1.now,
-    )) result (payload_at bytes.now) }
+pub fn payload_of(alloc: Global, bytes: &[u8]) -> Result<(Payload, &[u8]), ReadError>
+    ensures { Gives (λ x. (x.0, x.1.now)) result (payload_at bytes.now) }
 {
     let (version, rest) = version_of(bytes)?;
     let (byte, rest) = reads_byte_of(rest)?;
     let (reads, rest) = reads_of(alloc, version, reads_count(byte), rest)?;
     let (ranges, rest) = ranges_of(alloc, version, has_ranges(byte), rest)?;
     let (writes, rest) = writes_of(alloc, &reads, rest)?;
-    Ok((
-        PayloadParts {
-            reads,
-            ranges,
-            writes,
-            version,
-        },
-        rest,
-    ))
-}
-
-pub fn payload_of(alloc: Global, bytes: &[u8]) -> Result<(Payload, &[u8]), ReadError>
-    ensures { Gives (λ x. (x.0, x.1.now)) result (payload_at bytes.now) }
-{
-    let (parts, rest) = payload_parts(alloc, bytes)?;
-    match Payload::build_ranges(parts.reads, parts.ranges, parts.writes, parts.version) {
-        Ok(payload) => Ok((payload, rest)),
-        Err(_) => unreachable!(),
-    }
+    Ok((Payload::of(reads, ranges, writes, version)?, rest))
 }
 
 #[tactic(auto, unfolding(crate::specs::Parts::maybe_at))]

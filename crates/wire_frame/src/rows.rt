@@ -1,10 +1,9 @@
 //! Reads rows: each slot above the last one, and no transaction twice.
-ghost use Rattle.std.specs.Prelude.{◌≡◌, not, nat_le, nat_lt, ◌∷◌, IfOk, OnOk};
+ghost use Rattle.std.specs.Prelude.{◌≡◌, not, nat_le, nat_lt, [], ◌∷◌, IfOk, OnOk};
 ghost use Rattle.std.specs.List.{list_any};
 ghost use Rattle.tcs_terms.specs.Logs.{same_txn, SameTxns};
 ghost use Rattle.std.specs.Int.{w16};
 ghost use Rattle.wire_frame.specs.declared.faults.FrameReason.TheVariants.{Range, Order};
-ghost use Rattle.std.specs.Prelude.{[]};
 ghost use Rattle.wire_frame.specs.Reading.{Gives, number_at, tested, each_at};
 ghost use Rattle.wire_frame.specs.Parts.{slot_at, txn_at, row_at, with_row, rows_at};
 
@@ -14,7 +13,10 @@ use crate::faults::{FrameReason, ReadError};
 use crate::numbers::{bad_at, slot_of, txn_of, u16_of};
 use std::alloc::Global;
 use std::collections::HashSet;
-use tcs_terms::{Entry, OutOfMemory, Row, Rows, RowsFault, Slot, TxId};
+use tcs_terms::{Entry, OutOfMemory, Row, Rows, Slot, TxId};
+
+/// A row has at least 2 bytes of slot, 5 of transaction, 2 of shards, 1 of vote and 1 of mark.
+const LEAST_ROW: usize = 11;
 
 /// Remembers a transaction, and says whether it is new.
 fn is_new(seen: &mut HashSet<TxId>, txn: TxId) -> Result<bool, OutOfMemory>
@@ -57,7 +59,7 @@ fn row_of<'a>(
 {
     let (slot, rest) = slot_above(last, bytes)?;
     let (txn, rest) = new_txn(seen, rest)?;
-    let (shards, rest) = shards_of(alloc, rest)?;
+    let (shards, rest) = shards_of(rest)?;
     let ((payload, vote), rest) = vote_of(alloc, rest)?;
     let (mark, rest) = mark_of(rest)?;
     let entry = Entry {
@@ -73,7 +75,8 @@ fn row_of<'a>(
 fn each_row(alloc: Global, count: u16, bytes: &[u8]) -> Result<(Vec<Row>, &[u8]), ReadError>
     ensures { Gives (λ x. (x.0.items, x.1.now)) result (each_at row_at with_row count (0, []) bytes.now) }
 {
-    let mut rows = Vec::new(alloc);
+    let room = bytes.len() / LEAST_ROW;
+    let mut rows = Vec::with_capacity(alloc, room.min(count as usize))?;
     let mut seen = HashSet::new(alloc);
     let mut last = 0;
     let mut rest = bytes;
@@ -109,9 +112,5 @@ pub fn rows_of(alloc: Global, most: u16, bytes: &[u8]) -> Result<(Rows, &[u8]), 
     ensures { Gives (λ x. (x.0, x.1.now)) result (rows_at most bytes.now) }
 {
     let (list, rest) = row_list(alloc, most, bytes)?;
-    match Rows::build(list) {
-        Ok(rows) => Ok((rows, rest)),
-        Err(RowsFault::OutOfMemory) => Err(ReadError::Memory),
-        Err(RowsFault::Bad(_)) => unreachable!(),
-    }
+    Ok((Rows::of(list), rest))
 }

@@ -2,11 +2,11 @@
 ghost use Rattle.std.specs.Prelude.{◌≡◌, Ok};
 ghost use Rattle.wire_frame.specs.declared.faults.FrameReason.TheVariants.{Range};
 ghost use Rattle.wire_frame.specs.Reading.{Gives, byte_at, tested, each_at};
-ghost use Rattle.wire_frame.specs.Parts.{is_up_to, next_at, ascending_at};
+ghost use Rattle.wire_frame.specs.Parts.{is_up_to, next_at, ascending_at, shards_at, members_at};
 
 use crate::faults::{FrameReason, ReadError};
 use crate::numbers::{bad_at, byte_of, is_up_to};
-use std::alloc::Global;
+use tcs_terms::limits::{MAX_MEMBERS, MAX_NODES, MAX_SHARDS};
 
 /// A number from 1 to the most.
 pub fn up_to(most: u8, bytes: &[u8]) -> Result<(u8, &[u8]), ReadError>
@@ -30,35 +30,53 @@ fn next_of(most: u8, last: u8, bytes: &[u8]) -> Result<(u8, &[u8]), ReadError>
     Ok((number, rest))
 }
 
-fn each_next(
-    alloc: Global,
-    most: u8,
-    count: u8,
-    bytes: &[u8],
-) -> Result<(Vec<u8>, &[u8]), ReadError>
-    ensures { Gives (λ x. (x.0.items, x.1.now)) result (each_at (next_at most) (λ last n. n) count 0 bytes.now) }
+/// So many numbers, each of one byte, where they stand in the frame.
+fn each_next(most: u8, count: u8, bytes: &[u8]) -> Result<(&[u8], &[u8]), ReadError>
+    ensures { Gives (λ x. (x.0.now, x.1.now)) result (each_at (next_at most) (λ last n. n) count 0 bytes.now) }
 {
-    let mut numbers = Vec::new(alloc);
     let mut last = 0;
     let mut rest = bytes;
     for _ in 0..count {
         let (number, after) = next_of(most, last, rest)?;
-        numbers.push(number)?;
         last = number;
         rest = after;
     }
-    Ok((numbers, rest))
+    Ok(bytes.split_at(count as usize))
+}
+
+/// The bounds of numbers that ascend: how many there are at most, and the greatest of them.
+#[derive(Clone, Copy)]
+struct Bounds {
+    many: u8,
+    most: u8,
 }
 
 #[tactic(auto, unfolding(crate::specs::Parts::ascending_at))]
-pub fn ascending_of(
-    alloc: Global,
-    many: u8,
-    most: u8,
-    bytes: &[u8],
-) -> Result<(Vec<u8>, &[u8]), ReadError>
-    ensures { Gives (λ x. (x.0.items, x.1.now)) result (ascending_at many most bytes.now) }
+fn ascending_of(bounds: Bounds, bytes: &[u8]) -> Result<(&[u8], &[u8]), ReadError>
+    ensures { Gives (λ x. (x.0.now, x.1.now)) result (ascending_at bounds.many bounds.most bytes.now) }
 {
-    let (count, rest) = up_to(many, bytes)?;
-    each_next(alloc, most, count, rest)
+    let (count, rest) = up_to(bounds.many, bytes)?;
+    each_next(bounds.most, count, rest)
+}
+
+/// The numbers of a set of shards.
+pub fn shard_numbers(bytes: &[u8]) -> Result<(&[u8], &[u8]), ReadError>
+    ensures { Gives (λ x. (x.0.now, x.1.now)) result (shards_at bytes.now) }
+{
+    let bounds = Bounds {
+        many: MAX_SHARDS,
+        most: MAX_SHARDS,
+    };
+    ascending_of(bounds, bytes)
+}
+
+/// The members of a configuration.
+pub fn member_numbers(bytes: &[u8]) -> Result<(&[u8], &[u8]), ReadError>
+    ensures { Gives (λ x. (x.0.now, x.1.now)) result (members_at bytes.now) }
+{
+    let bounds = Bounds {
+        many: MAX_MEMBERS as u8,
+        most: MAX_NODES,
+    };
+    ascending_of(bounds, bytes)
 }

@@ -15,7 +15,7 @@ use tcs_terms::limits::{MAX_PIECE_ROWS, MAX_SLOT};
 pub fn new_state_of(alloc: Global, bytes: &[u8]) -> Result<(Message, &[u8]), ReadError>
     ensures { Gives (λ x. (x.0, x.1.now)) result (new_state_at bytes.now) }
 {
-    let (config, rest) = config_of(alloc, bytes)?;
+    let (config, rest) = config_of(bytes)?;
     let (rows, rest) = rows_of(alloc, MAX_SLOT, rest)?;
     Ok((Message::NewState { config, rows }, rest))
 }
@@ -24,7 +24,7 @@ pub fn new_state_of(alloc: Global, bytes: &[u8]) -> Result<(Message, &[u8]), Rea
 pub fn state_piece_of(alloc: Global, bytes: &[u8]) -> Result<(Message, &[u8]), ReadError>
     ensures { Gives (λ x. (x.0, x.1.now)) result (state_piece_at bytes.now) }
 {
-    let (config, rest) = config_of(alloc, bytes)?;
+    let (config, rest) = config_of(bytes)?;
     let (piece, rest) = piece_of(rest)?;
     let (pieces, rest) = pieces_of(piece, rest)?;
     let (rows, rest) = rows_of(alloc, MAX_PIECE_ROWS as u16, rest)?;

@@ -9,12 +9,16 @@ mod worked;
 use worked::WORKED;
 
 fn each_again(rt: &impl Abort, alloc: Global, frames: &[(u8, &str)]) -> Result<(), Fail> {
+    let mut all = Vec::new(alloc);
     for (byte, text) in frames {
         let frame = hex::decode(alloc, *text)?;
         let message = decode(alloc, &frame)?;
         assert_eq!(rt; kind(&message), *byte, "{text}");
         let again = encode(alloc, &message)?;
         assert_eq!(rt; again.as_slice(), frame.as_slice(), "{text}");
+        let held = all.len();
+        encode_into(&message, &mut all)?;
+        assert!(rt; all.get(held..) == Some(frame.as_slice()), "{text}");
     }
     Ok(())
 }

@@ -5,7 +5,7 @@ use Rattle.wire_frame.proofs.payloads.each_range.Goals as goal
 
 pub returns-in_err-range : goal.returns-in_err-range
 returns-in_err-range c =
-    let p = err_from_is_err_and c.from_residual.result c.from_residual.ensures.1 in
+    let p = err_from_is_err_and c.from_residual-in_err-range.result c.from_residual-in_err-range.ensures.1 in
     rw (p.1, p.2) (ends (range_at c.args.version) (λ last q. q.upto) c.in_err-range.field-0.0 c.loop.ranges.items c.args.count c.loop.counter c.loop.last.now c.loop.rest.now _ c.loop-test.true c.in_err-range.ensures.range c.loop.invariant)
 
 pub loop-preserved : goal.loop-preserved

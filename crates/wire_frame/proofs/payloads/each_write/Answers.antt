@@ -5,7 +5,7 @@ use Rattle.wire_frame.proofs.payloads.each_write.Goals as goal
 
 pub returns-in_err-write : goal.returns-in_err-write
 returns-in_err-write c =
-    let p = err_from_is_err_and c.from_residual.result c.from_residual.ensures.1 in
+    let p = err_from_is_err_and c.from_residual-in_err-write.result c.from_residual-in_err-write.ensures.1 in
     rw (p.1, p.2) (ends (write_at c.args.reads.now) (λ last w. w.name) c.in_err-write.field-0.0 c.loop.writes.items c.args.count c.loop.counter c.loop.last.now c.loop.rest.now _ c.loop-test.true c.in_err-write.ensures.write c.loop.invariant)
 
 pub loop-preserved : goal.loop-preserved

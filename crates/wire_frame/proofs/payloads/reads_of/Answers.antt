@@ -6,7 +6,7 @@ use Rattle.wire_frame.proofs.payloads.reads_of.Goals as goal
 pub returns-in_err-read : goal.returns-in_err-read
 unfolding reads_at
 returns-in_err-read c =
-    let p = err_from_is_err_and c.from_residual.result c.from_residual.ensures.1 in
+    let p = err_from_is_err_and c.from_residual-in_err-read.result c.from_residual-in_err-read.ensures.1 in
     rw (p.1, p.2) (ends (read_at c.args.version) (λ last r. r.name) c.in_err-read.field-0.0 c.loop.reads.items c.args.count c.loop.counter c.loop.last.now c.loop.rest.now _ c.loop-test.true c.in_err-read.ensures.read c.loop.invariant)
 
 pub loop-preserved : goal.loop-preserved

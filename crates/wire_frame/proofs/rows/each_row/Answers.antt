@@ -8,7 +8,7 @@ use Rattle.wire_frame.proofs.rows.each_row.Goals as goal
 
 pub returns-in_err-row : goal.returns-in_err-row
 returns-in_err-row c =
-    let p = err_from_is_err_and c.from_residual.result c.from_residual.ensures.1 in
+    let p = err_from_is_err_and c.from_residual-in_err-row.result c.from_residual-in_err-row.ensures.1 in
     rw (p.1, p.2) (ends row_at with_row c.in_err-row.field-0.0 c.loop.rows.items c.args.count c.loop.counter (c.loop.last, c.loop.seen.keys) c.loop.rest.now _ c.loop-test.true c.in_err-row.ensures.read c.loop.invariant)
 
 pub loop-preserved : goal.loop-preserved

@@ -4,13 +4,13 @@ use Rattle.tcs_terms.specs.ConfigFaults.{config_fault}
 use Rattle.tcs_terms.proofs.PlaceLaws.{is_membership_without_fault, no_fault_of_a_membership}
 use Rattle.tcs_terms.proofs.configurations.Config.build.Goals as goal
 
-pub invariant_of-result : goal.invariant_of-result
-invariant_of-result c =
+pub of-requires : goal.of-requires
+of-requires c =
     let m : Membership = record { shard = c.args.shard; epoch = c.args.epoch; members = c.deref.result.now; leader = c.args.leader; by = c.args.by } in
-    rw (← c.deref.ensures.value) (is_membership_without_fault m (sym c.in-None.ensures))
+    rw (c.deref-in-None.ensures.value, ← c.deref.ensures.value) (is_membership_without_fault m (sym c.in-None.ensures))
 
-pub returns-in-None-clause-ok : goal.returns-in-None-clause-ok
-returns-in-None-clause-ok c =
+pub returns-clause-ok : goal.returns-clause-ok
+returns-clause-ok c =
     let m : Membership = record { shard = c.args.shard; epoch = c.args.epoch; members = c.deref.result.now; leader = c.args.leader; by = c.args.by } in
     (λ _. rw (← c.deref.ensures.value) (is_membership_without_fault m (sym c.in-None.ensures)), λ _. refl)
 
