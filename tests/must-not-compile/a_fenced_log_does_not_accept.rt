@@ -1,4 +1,4 @@
-//! refused: no method `accept`
+//! refused: no method named `accept` found for type `Fenced<G>`
 use cert_log::Fenced;
 use tcs_laws::VoteGuard;
 use tcs_terms::Entry;

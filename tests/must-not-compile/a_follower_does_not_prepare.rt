@@ -1,4 +1,4 @@
-//! refused: no method `prepare`
+//! refused: no method named `prepare` found for type `Follower<G>`
 use follower_part::Follower;
 use std::alloc::Global;
 use tcs_laws::VoteGuard;

@@ -1,4 +1,4 @@
-//! refused: no method `accept`
+//! refused: no method named `accept` found for type `Leader<G>`
 use leader_part::Leader;
 use tcs_laws::VoteGuard;
 use tcs_terms::Entry;

@@ -1,4 +1,4 @@
-//! refused: moved
+//! refused: use of moved value: `fenced`
 use cert_log::Fenced;
 use leader_part::{Leader, lead};
 use tcs_laws::VoteGuard;

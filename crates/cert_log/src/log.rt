@@ -109,8 +109,7 @@ impl<G: VoteGuard> CertLog<G> {
         ensures { result ≡ is_taken self.now entry.now }
     {
         let (slot, txn) = (entry.slot, entry.txn);
-        !self.has_at(slot, txn)
-            && (self.at(slot).is_some() || self.row_of(txn).is_some())
+        !self.has_at(slot, txn) && (self.at(slot).is_some() || self.row_of(txn).is_some())
     }
 
     /// Prepares a transaction: the entry that the log keeps of it, else one in the next slot, with the vote over the

@@ -11,7 +11,7 @@ ghost use Rattle.replica.specs.Replicas.{can_follow, duty_in, within};
 use crate::replicas::Replica;
 use crate::roles::is_follower;
 use answers::refusal;
-use state_transfer::{Gathering, StatePiece, drop_below, gather, into_list, takes_piece};
+use state_transfer::{Gathering, StatePiece, drop_below, gather, takes_piece};
 use std::alloc::Global;
 use tcs_laws::VoteGuard;
 use tcs_terms::{Config, Handled, OutOfMemory, Rows};
@@ -68,7 +68,7 @@ impl<G: VoteGuard> Replica<G> {
         }
         self.spent = true;
         drop_below(&mut self.gathering, config.epoch());
-        self.duty.follow(alloc, config, into_list(alloc, rows)?)?;
+        self.duty.follow(alloc, config, rows.into_list())?;
         self.spent = false;
         Ok(Handled::Acted)
     }

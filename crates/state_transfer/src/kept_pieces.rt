@@ -6,7 +6,6 @@ ghost use Rattle.protocol.specs.Pieces.{are_whole, is_kept, rows_of, with_piece}
 ghost use Rattle.state_transfer.specs.Apart.{stands_apart};
 
 use crate::apart::{are_new, ends_below};
-use crate::copies::into_list;
 use std::alloc::Global;
 use std::collections::HashSet;
 use std::marker::Model;
@@ -98,7 +97,7 @@ impl KeptPieces {
     {
         let mut rows = Vec::new(alloc);
         for piece in self.list {
-            push_rows(into_list(alloc, piece.rows)?, &mut rows)?;
+            push_rows(piece.rows.into_list(), &mut rows)?;
         }
         Ok(rows)
     }
