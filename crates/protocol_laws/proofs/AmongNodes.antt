@@ -37,7 +37,7 @@ use Rattle.protocol.proofs.Moments.{time_after-now}
 use Rattle.protocol_laws.specs.Addresses.{names_txn, IsBetweenNodes, TransactionsStayAmongNodes}
 use Rattle.protocol_laws.specs.Effect.{GoesOn, OpenPart, Effect}
 use Rattle.protocol_laws.specs.Effect.Effect.{Rests, Certifies, TakesOver, Nudges, Moves, Lowers, Asks, AnswersAgain, Appends, Votes, Acknowledges, Changes, Learns, Accepts, Promises, Chooses, Leads}
-use Rattle.protocol_laws.specs.Runs.{AreEventsOf}
+use Rattle.tcs_terms.specs.Runs.{AreEventsOf}
 use Rattle.protocol_laws.specs.Turn.{Turn}
 use Rattle.protocol_laws.proofs.ByTransaction.{lookup-StandsIn}
 use Rattle.protocol_laws.proofs.Came.{message_back, Acting, IsSentBy}

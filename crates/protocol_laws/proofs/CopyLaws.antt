@@ -2,6 +2,7 @@
 use Rattle.std.proofs.Common.{◌≡◌, true, List, ◌∷◌, ◌++◌, inl, sym, subst, refl}
 use Rattle.tcs_terms.specs.declared.inputs.Event.{Event}
 use Rattle.tcs_terms.specs.declared.inputs.Note.{Note}
+use Rattle.tcs_terms.specs.Runs.{AreEventsOf}
 use Rattle.tcs_terms.specs.Setups.{Deployment}
 use Rattle.tcs_laws.specs.Certification.{Tests}
 use Rattle.tcs_laws.specs.Laws.{ChecksReads, IsLawful, OrdersWrites}
@@ -11,7 +12,6 @@ use Rattle.protocol.specs.OneCopy.{is_honest, is_one_copy}
 use Rattle.protocol.specs.Run.{run}
 use Rattle.protocol.specs.World.{first_world}
 use Rattle.protocol_laws.specs.Rising.{VersionsRise}
-use Rattle.protocol_laws.specs.Runs.{AreEventsOf}
 use Rattle.protocol_laws.proofs.BegunFirst.{BegunFirst, begun_first}
 use Rattle.protocol_laws.proofs.CorrectOrder.{HaveFormed}
 use Rattle.protocol_laws.proofs.HistoryAt.{formed_at, remembers_at}

@@ -15,7 +15,7 @@ use Rattle.protocol.specs.Run.{run}
 use Rattle.protocol.proofs.Lists.{among-StandsIn}
 use Rattle.protocol.proofs.Moments.{time_after-now}
 use Rattle.protocol_laws.specs.NamedShards.{ShardsAreNamed, EmptyAfterTakeOver}
-use Rattle.protocol_laws.specs.Runs.{AreEventsOf}
+use Rattle.tcs_terms.specs.Runs.{AreEventsOf}
 use Rattle.protocol_laws.proofs.PartsOf.{shard-part}
 use Rattle.protocol_laws.proofs.RunInduction.{invariant_at}
 use Rattle.protocol_laws.proofs.ShardNaming.{run-names_shards}

@@ -5,12 +5,12 @@ use Rattle.tcs_terms.specs.declared.inputs.Event.{Event}
 use Rattle.tcs_terms.specs.declared.inputs.Note.{Note}
 use Rattle.tcs_terms.specs.declared.inputs.Note.TheVariants.{Decide}
 use Rattle.tcs_terms.specs.declared.votes.Decision.{Decision}
+use Rattle.tcs_terms.specs.Runs.{AreEventsOf}
 use Rattle.tcs_terms.specs.Setups.{Deployment}
 use Rattle.tcs_laws.specs.Certification.{Tests}
 use Rattle.protocol.specs.Invariant.{InvariantHolds}
 use Rattle.protocol.specs.Invariant.Time.{Moment, goes_to, time_after}
 use Rattle.protocol.specs.World.{first_world}
-use Rattle.protocol_laws.specs.Runs.{AreEventsOf}
 use Rattle.protocol_laws.proofs.CorrectOrder.{HaveFormed}
 use Rattle.protocol_laws.proofs.HistoryKept.{ArePayloads, HistoryHolds, history_kept, payload-begun}
 use Rattle.protocol_laws.proofs.OnwardOf.{onward_of}

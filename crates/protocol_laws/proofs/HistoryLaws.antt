@@ -6,6 +6,7 @@ use Rattle.tcs_terms.specs.declared.inputs.Note.{Note}
 use Rattle.tcs_terms.specs.declared.inputs.Note.TheVariants.{Decide}
 use Rattle.tcs_terms.specs.declared.votes.Cause.TheVariants.{Lost}
 use Rattle.tcs_terms.specs.declared.votes.Decision.TheVariants.{Abort}
+use Rattle.tcs_terms.specs.Runs.{AreEventsOf}
 use Rattle.tcs_terms.specs.Setups.{Deployment}
 use Rattle.tcs_laws.specs.Certification.{Tests}
 use Rattle.tcs_laws.specs.Laws.{IsLawful}
@@ -14,7 +15,6 @@ use Rattle.protocol.specs.CorrectHistory.{agrees, is_legal, keeps_time, names_cl
 use Rattle.protocol.specs.Invariant.Time.{StandsIn, time_after}
 use Rattle.protocol.specs.FoundNothing.{found_nothing}
 use Rattle.protocol.specs.Run.{run}
-use Rattle.protocol_laws.specs.Runs.{AreEventsOf}
 use Rattle.protocol_laws.proofs.AgreesOf.{agrees-of}
 use Rattle.protocol_laws.proofs.BegunFirst.{begun_first}
 use Rattle.protocol_laws.proofs.CorrectNotes.{history-clashes, history-loses}

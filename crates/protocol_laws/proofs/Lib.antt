@@ -22,6 +22,7 @@ pub mod ConfigurationsSame
 pub mod ConfigurationsStored
 pub mod ConfigurationsWanted
 pub mod CopyAfter
+pub mod CopyBefore
 pub mod CopyFits
 pub mod CopyLaws
 pub mod CopyTells
@@ -48,7 +49,7 @@ pub mod EntriesCasesKept
 pub mod EntriesKept
 pub mod EntriesListed
 pub mod EntriesListsKept
-pub mod EventsOf
+pub mod Exchanges
 pub mod LogRows
 pub mod FoundInRun
 pub mod Fronts

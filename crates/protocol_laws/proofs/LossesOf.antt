@@ -11,7 +11,7 @@ use Rattle.protocol.specs.Invariant.Transactions.{EntryFits}
 use Rattle.protocol.specs.Run.{run}
 use Rattle.protocol.proofs.Moments.{time_after-now}
 use Rattle.protocol_laws.specs.Losses.{IsFoundMissing, LossesWereCaused}
-use Rattle.protocol_laws.specs.Runs.{AreEventsOf}
+use Rattle.tcs_terms.specs.Runs.{AreEventsOf}
 use Rattle.protocol_laws.proofs.RunInduction.{invariant_at}
 use Rattle.protocol_laws.proofs.RunMoments.{found-by_event}
 

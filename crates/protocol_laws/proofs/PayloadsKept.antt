@@ -7,6 +7,7 @@ use Rattle.tcs_terms.specs.declared.inputs.Input.{Input}
 use Rattle.tcs_terms.specs.declared.inputs.Input.TheVariants as inputs
 use Rattle.tcs_terms.specs.declared.inputs.Note.TheVariants.{Begin}
 use Rattle.tcs_terms.specs.Payloads.{Accesses, IsPayload}
+use Rattle.tcs_terms.specs.Runs.{IsEvent}
 use Rattle.tcs_laws.specs.Certification.{Tests}
 use Rattle.protocol.specs.Invariant.Time.{StandsIn}
 use Rattle.protocol.specs.Outcomes.{Out}
@@ -15,7 +16,6 @@ use Rattle.protocol.specs.World.{World, Happening}
 use Rattle.protocol.proofs.Lists.{StandsIn-append}
 use Rattle.protocol_laws.specs.Change.{Change, Passes, Stops, Acts, AtService, Comes, ByCall, ByMessage}
 use Rattle.protocol_laws.specs.Effect.{Effect, Rests, Certifies, TakesOver, Reads, Votes, Acknowledges}
-use Rattle.protocol_laws.specs.Runs.{IsEvent}
 use Rattle.protocol_laws.proofs.HistoryKept.{ArePayloads}
 use Rattle.protocol_laws.proofs.TransactionsNotes.{goes_on-begins}
 use Rattle.protocol_laws.proofs.ServiceSays.{serves_no_notes}

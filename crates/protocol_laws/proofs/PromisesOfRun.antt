@@ -6,7 +6,9 @@ use Rattle.tcs_terms.specs.declared.inputs.Note.{Note}
 use Rattle.tcs_terms.specs.declared.inputs.Note.TheVariants.{Decide}
 use Rattle.tcs_terms.specs.declared.votes.Cause.TheVariants.{Lost}
 use Rattle.tcs_terms.specs.declared.votes.Decision.TheVariants.{Abort}
+use Rattle.tcs_terms.specs.Runs.{AreEventsOf}
 use Rattle.tcs_terms.specs.Setups.{Deployment}
+use Rattle.tcs_terms.proofs.RunLaws.{front_stands}
 use Rattle.tcs_laws.specs.Certification.{Tests}
 use Rattle.tcs_laws.specs.Laws.{IsLawful}
 use Rattle.protocol.proofs.Moments.{time_after-now}
@@ -20,11 +22,9 @@ use Rattle.protocol.specs.World.{World, Happening, world_step}
 use Rattle.protocol_laws.specs.Limits.{LimitHolds}
 use Rattle.protocol_laws.specs.Promises.{noted, LossesWereFound, KeepsItsPromises}
 use Rattle.protocol_laws.specs.Rising.{VersionsRise}
-use Rattle.protocol_laws.specs.Runs.{AreEventsOf}
 use Rattle.protocol_laws.specs.Told.{ToldRightly, WasDecided}
 use Rattle.protocol_laws.proofs.ChangeOf.{change_of}
 use Rattle.protocol_laws.proofs.CopyLaws.{run_is_one_copy, run_versions_rise}
-use Rattle.protocol_laws.proofs.EventsOf.{events-front}
 use Rattle.protocol_laws.proofs.Guards.{by_guard}
 use Rattle.protocol_laws.proofs.HistoryLaws.{run_is_correct, run_found_nothing}
 use Rattle.protocol_laws.proofs.LimitedRuns.{limit_holds, history_grows, run_on}
@@ -47,7 +47,7 @@ noted-stands tests setup front event n (Ended w count bytes) l = λ s. absurd s
 
 losses_found : (tests : Tests) (setup : Deployment) (events : List Event) → AreEventsOf setup events → LossesWereFound tests setup events
 losses_found tests setup events a front event back txn shard split s =
-    let up_to : AreEventsOf setup (front ++ event ∷ []) = events-front setup (front ++ event ∷ []) back (subst (λ es. AreEventsOf setup es) (split ∙ sym (append_assoc front (event ∷ []) back)) a) in
+    let up_to : AreEventsOf setup (front ++ event ∷ []) = front_stands setup (front ++ event ∷ []) back (subst (λ es. AreEventsOf setup es) (split ∙ sym (append_assoc front (event ∷ []) back)) a) in
     run_found_nothing tests setup (front ++ event ∷ []) up_to txn shard
     (noted-stands tests setup front event (Decide txn (Abort shard Lost)) (limited_run tests setup front) (limit_holds tests setup front) s)
 
@@ -87,7 +87,7 @@ keeps_promises tests setup events lawful a (Ended w count bytes) l = record {
 }
   where
     before : AreEventsOf setup l.before
-    before = events-front setup l.before (l.event ∷ l.after) (subst (λ es. AreEventsOf setup es) l.split a)
+    before = front_stands setup l.before (l.event ∷ l.after) (subst (λ es. AreEventsOf setup es) l.split a)
 
 pub run_keeps_promises : (tests : Tests) (setup : Deployment) (events : List Event) → IsLawful tests → AreEventsOf setup events → KeepsItsPromises tests setup events (limited_run tests setup events)
 run_keeps_promises tests setup events lawful a = keeps_promises tests setup events lawful a (limited_run tests setup events) (limit_holds tests setup events)

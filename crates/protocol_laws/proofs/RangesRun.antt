@@ -7,7 +7,7 @@ use Rattle.tcs_laws.specs.Certification.{Tests}
 use Rattle.protocol.specs.Run.{run, world_after}
 use Rattle.protocol.specs.World.{World, first_world, world_step}
 use Rattle.protocol_laws.specs.Ranges.{IsWorldInRange}
-use Rattle.protocol_laws.specs.Runs.{AreEventsOf, MayStand}
+use Rattle.tcs_terms.specs.Runs.{AreEventsOf, MayStand}
 use Rattle.protocol_laws.proofs.RangesStart.{first_world-in_range, event-in_range}
 use Rattle.protocol_laws.proofs.RangesWorld.{world_step-in_range}
 

@@ -22,7 +22,7 @@ use Rattle.protocol.specs.World.{first_role, first_epoch, first_node, first_node
 use Rattle.protocol.specs.Invariant.Time.{StandsIn}
 use Rattle.protocol.proofs.Lists.{all-StandsIn, find-StandsIn}
 use Rattle.protocol_laws.specs.Ranges.{IsRoleInRange, AreViews, IsNodeInRange, IsInputInRange, ComesFromNode, IsNoteInRange, IsSentInRange, IsWorldInRange, IsEventInRange}
-use Rattle.protocol_laws.specs.Runs.{IsInput, MayStand}
+use Rattle.tcs_terms.specs.Runs.{IsInput, MayStand}
 use Rattle.protocol_laws.proofs.AllOf.{all-at, all-of}
 use Rattle.protocol_laws.proofs.RangesRows.{HasEntry}
 use Rattle.protocol_laws.proofs.Standing.{all-from}

@@ -2,6 +2,7 @@
 use Rattle.std.proofs.Common.{ℕ, List, [], ◌∷◌, fold}
 use Rattle.std.specs.List.{AllByRecursion}
 use Rattle.tcs_terms.specs.declared.inputs.Event.{Event}
+use Rattle.tcs_terms.specs.Runs.{AreEventsOf, MayStand}
 use Rattle.tcs_terms.specs.Setups.{Deployment, IsDeployment}
 use Rattle.tcs_laws.specs.Certification.{Tests}
 use Rattle.protocol.proofs.Start.{start-InvariantHolds}
@@ -10,7 +11,6 @@ use Rattle.protocol.specs.Invariant.Time.{Moment, goes_to, time_after}
 use Rattle.protocol.specs.World.{Happening, first_world, world_step}
 use Rattle.protocol_laws.proofs.ChangeOf.{change_of}
 use Rattle.protocol_laws.proofs.Kept.{invariant_kept}
-use Rattle.protocol_laws.specs.Runs.{AreEventsOf, MayStand}
 use Rattle.protocol_laws.specs.Turn.{Turn}
 
 -- what each turn keeps; the invariant holds before and after it

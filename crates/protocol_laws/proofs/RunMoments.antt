@@ -8,6 +8,7 @@ use Rattle.tcs_terms.specs.declared.inputs.Note.TheVariants.{Decide}
 use Rattle.tcs_terms.specs.declared.votes.Cause.TheVariants.{Lost}
 use Rattle.tcs_terms.specs.declared.votes.Decision.TheVariants.{Abort}
 use Rattle.tcs_terms.specs.Events.{event_fits}
+use Rattle.tcs_terms.specs.Runs.{AreEventsOf, MayStand}
 use Rattle.tcs_terms.specs.Setups.{Deployment}
 use Rattle.tcs_laws.specs.Certification.{Tests}
 use Rattle.protocol.specs.FoundNothing.{has_acted, finds_nothing, finds_nothing_in, found_nothing}
@@ -16,16 +17,19 @@ use Rattle.protocol.specs.Invariant.Transactions.{FoundNothingBy}
 use Rattle.protocol.specs.Past.{with_past}
 use Rattle.protocol.specs.Run.{world_after, run}
 use Rattle.protocol.specs.World.{World, first_world, world_step}
-use Rattle.protocol_laws.specs.Runs.{AreEventsOf, MayStand}
 use Rattle.protocol_laws.proofs.HistoryAt.{Remembers, remembers_at}
 use Rattle.protocol_laws.proofs.AcceptedSays.{before-past}
 use Rattle.protocol_laws.proofs.CausesNow.{lost-found}
 use Rattle.protocol_laws.proofs.ChangeOf.{change_of}
-use Rattle.protocol_laws.proofs.EventsOf.{all-between}
 use Rattle.protocol_laws.proofs.FoundInRun.{FoundBetween, IsFound, found_in_change}
 use Rattle.protocol_laws.proofs.PastKept.{WorldHolds}
 use Rattle.protocol_laws.proofs.RunInduction.{invariant_at}
 use Rattle.protocol_laws.proofs.WithPast.{any-with_past}
+
+-- what holds of each element holds of one that stands between others
+all-between : {X : Type 0} (P : X → Type 0) (xs : List X) (x : X) (ys : List X) → AllByRecursion P (xs ++ (x ∷ ys)) → P x
+all-between P [] x ys h = h.0
+all-between P (z ∷ zs) x ys h = all-between P zs x ys h.1
 
 -- the event between two worlds of a run that began with another one
 record EventBetween (tests : Tests) (version : ℕ) (first : World) (events : List Event) (before after : World) : Type 0 where

@@ -36,7 +36,7 @@ use Rattle.protocol_laws.specs.Effect.Effect.{Rests, Certifies, TakesOver, Nudge
 use Rattle.protocol_laws.specs.Effect.GoesOn.{Waiting, Decides}
 use Rattle.protocol_laws.specs.Effect.Sees.{Replaces, Keeps as KeepsView}
 use Rattle.protocol_laws.specs.NamedShards.{IsOfShard, AreOfShard, NamesShard, IsPartOfCase, ShardsAreNamed}
-use Rattle.protocol_laws.specs.Runs.{AreEventsOf}
+use Rattle.tcs_terms.specs.Runs.{AreEventsOf}
 use Rattle.protocol_laws.specs.Turn.{Turn, GrewFrom}
 use Rattle.protocol_laws.proofs.ByTransaction.{set_value-StandsIn, remove_entry-StandsIn, lookup-StandsIn}
 use Rattle.protocol_laws.proofs.Came.{effect_shard, node_back, message_back, Acting}

@@ -22,7 +22,7 @@ use Rattle.protocol_laws.specs.Effect.{Hears, Effect}
 use Rattle.protocol_laws.specs.Effect.Effect.{Moves, Lowers, Learns, Chooses, FindsLow}
 use Rattle.protocol_laws.specs.Effect.Hears.{Waits, ProbesLast, ProbesLower, IsDone}
 use Rattle.protocol_laws.specs.EpochsBelow.{IsStoredAt, AreStoredBelow, StandsOnStored}
-use Rattle.protocol_laws.specs.Runs.{AreEventsOf}
+use Rattle.tcs_terms.specs.Runs.{AreEventsOf}
 use Rattle.protocol_laws.specs.Turn.{Turn}
 use Rattle.protocol_laws.proofs.Came.{node_back, Acting}
 use Rattle.protocol_laws.proofs.ConfigurationsInputs.{delivered}

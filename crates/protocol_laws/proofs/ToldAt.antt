@@ -6,6 +6,7 @@ use Rattle.tcs_terms.specs.declared.inputs.Event.{Event}
 use Rattle.tcs_terms.specs.declared.inputs.Note.TheVariants.{Decide}
 use Rattle.tcs_terms.specs.declared.votes.Decision.{Decision}
 use Rattle.tcs_terms.specs.Logs.{same_txn}
+use Rattle.tcs_terms.specs.Runs.{AreEventsOf}
 use Rattle.tcs_terms.specs.Setups.{Deployment}
 use Rattle.tcs_laws.specs.Certification.{Tests}
 use Rattle.protocol.specs.Cases.{commits}
@@ -15,7 +16,6 @@ use Rattle.protocol.specs.Invariant.Time.{Moment, StandsIn, time_after}
 use Rattle.protocol.specs.Run.{run}
 use Rattle.protocol.specs.World.{first_world}
 use Rattle.protocol.proofs.Moments.{time_after-now}
-use Rattle.protocol_laws.specs.Runs.{AreEventsOf}
 use Rattle.protocol_laws.specs.Told.{ToldRightly, WasDecided}
 use Rattle.protocol_laws.proofs.RunInduction.{invariant_at, run_induction}
 use Rattle.protocol_laws.proofs.SameTxn.{same_txn-eq}

@@ -1,7 +1,6 @@
 pub mod Effect
 pub mod Change
 pub mod Turn
-pub mod Runs
 pub mod Limits
 pub mod Rising
 pub mod Told
@@ -13,3 +12,4 @@ pub mod EpochsBelow
 pub mod Losses
 pub mod Addresses
 pub mod NamedShards
+pub mod Exchange

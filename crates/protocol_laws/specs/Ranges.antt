@@ -22,7 +22,7 @@ use Rattle.protocol.specs.Records.{Part, Case, Coordinator, Role, Stage, Gatheri
 use Rattle.protocol.specs.Records.Role.{Fenced, Leader, Follower}
 use Rattle.protocol.specs.Records.Stage.{Idle, AskedLast, Probing, AskedLower, CasSent}
 use Rattle.protocol.specs.World.{World, Sent, Happening}
-use Rattle.protocol_laws.specs.Runs.{IsInput}
+use Rattle.tcs_terms.specs.Runs.{IsInput}
 
 -- the configuration that a node leads or follows is one
 abbrev pub IsRoleInRange : Role → Type 0

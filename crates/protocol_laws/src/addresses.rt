@@ -7,7 +7,7 @@ ghost use Rattle.tcs_laws.specs.Certification.{Tests};
 ghost use Rattle.protocol.specs.Run.{run};
 ghost use Rattle.protocol_laws.specs.Addresses.{TransactionsStayAmongNodes};
 ghost use Rattle.protocol_laws.specs.NamedShards.{EmptyAfterTakeOver, ShardsAreNamed};
-ghost use Rattle.protocol_laws.specs.Runs.{AreEventsOf};
+ghost use Rattle.tcs_terms.specs.Runs.{AreEventsOf};
 
 /// The home of each transaction is a node, and each message that names a transaction or brings rows is sent by a node to a
 /// node, never by or to the service.

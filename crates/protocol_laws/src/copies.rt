@@ -2,13 +2,13 @@
 
 ghost use Rattle.std.specs.Prelude.{◌≡◌, true, List};
 ghost use Rattle.tcs_terms.specs.declared.inputs.Event.{Event};
+ghost use Rattle.tcs_terms.specs.Runs.{AreEventsOf};
 ghost use Rattle.tcs_terms.specs.Setups.{Deployment};
 ghost use Rattle.tcs_laws.specs.Certification.{Tests};
 ghost use Rattle.tcs_laws.specs.Laws.{ChecksReads, IsLawful, OrdersWrites};
 ghost use Rattle.protocol.specs.OneCopy.{is_honest, is_one_copy};
 ghost use Rattle.protocol.specs.Run.{run};
 ghost use Rattle.protocol_laws.specs.Rising.{VersionsRise};
-ghost use Rattle.protocol_laws.specs.Runs.{AreEventsOf};
 
 /// Commit versions of the committed transactions that write one object strictly rise along the order of first
 /// decisions, by a certifier that orders writes.

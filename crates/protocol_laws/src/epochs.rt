@@ -8,7 +8,7 @@ ghost use Rattle.protocol.specs.Invariant.Time.{StandsIn};
 ghost use Rattle.protocol.specs.Records.{NodeRecord};
 ghost use Rattle.protocol.specs.Run.{run};
 ghost use Rattle.protocol_laws.specs.EpochsBelow.{StandsOnStored};
-ghost use Rattle.protocol_laws.specs.Runs.{AreEventsOf};
+ghost use Rattle.tcs_terms.specs.Runs.{AreEventsOf};
 
 /// All epochs of a shard below the one that a prober is to make are stored.
 pub fn epochs_below_are_stored()

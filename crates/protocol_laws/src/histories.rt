@@ -6,6 +6,7 @@ ghost use Rattle.tcs_terms.specs.declared.inputs.Event.{Event};
 ghost use Rattle.tcs_terms.specs.declared.inputs.Note.TheVariants.{Decide};
 ghost use Rattle.tcs_terms.specs.declared.votes.Cause.TheVariants.{Lost};
 ghost use Rattle.tcs_terms.specs.declared.votes.Decision.TheVariants.{Abort};
+ghost use Rattle.tcs_terms.specs.Runs.{AreEventsOf};
 ghost use Rattle.tcs_terms.specs.Setups.{Deployment};
 ghost use Rattle.tcs_laws.specs.Certification.{Tests};
 ghost use Rattle.tcs_laws.specs.Laws.{IsLawful};
@@ -13,7 +14,6 @@ ghost use Rattle.protocol.specs.CorrectHistory.{agrees, is_legal, keeps_time, na
 ghost use Rattle.protocol.specs.FoundNothing.{found_nothing};
 ghost use Rattle.protocol.specs.Invariant.Time.{StandsIn};
 ghost use Rattle.protocol.specs.Run.{run};
-ghost use Rattle.protocol_laws.specs.Runs.{AreEventsOf};
 ghost use Rattle.protocol_laws.specs.Told.{ToldRightly};
 
 /// Agreement: each decision stands after its transaction's beginning, and all decisions of one transaction are equal,

@@ -4,6 +4,7 @@
 pub mod addresses;
 pub mod copies;
 pub mod epochs;
+pub mod exchange;
 pub mod growth;
 pub mod histories;
 pub mod invariant;

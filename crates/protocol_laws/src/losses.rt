@@ -6,7 +6,7 @@ ghost use Rattle.tcs_terms.specs.Setups.{Deployment};
 ghost use Rattle.tcs_laws.specs.Certification.{Tests};
 ghost use Rattle.protocol.specs.Run.{run};
 ghost use Rattle.protocol_laws.specs.Losses.{LossesWereCaused};
-ghost use Rattle.protocol_laws.specs.Runs.{AreEventsOf};
+ghost use Rattle.tcs_terms.specs.Runs.{AreEventsOf};
 
 /// Each entry that was lost, in a row, in a case or in a message to a node, is of a transaction of which some event of the
 /// run, a take-over's PREPARE that was delivered, found nothing in the entry's shard.

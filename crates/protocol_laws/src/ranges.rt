@@ -16,7 +16,7 @@ ghost use Rattle.protocol.specs.Service.{serve};
 ghost use Rattle.protocol.specs.Table.{step};
 ghost use Rattle.protocol.specs.World.{World, first_node, first_world, world_step};
 ghost use Rattle.protocol_laws.specs.Ranges.{AreViews, ComesFromNode, IsEventInRange, IsHappeningInRange, IsInputInRange, IsNodeInRange, IsOutInRange, IsWorldInRange};
-ghost use Rattle.protocol_laws.specs.Runs.{AreEventsOf, MayStand};
+ghost use Rattle.tcs_terms.specs.Runs.{AreEventsOf, MayStand};
 
 /// A node begins in range.
 pub fn first_node_in_range()

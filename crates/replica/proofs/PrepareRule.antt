@@ -1,5 +1,5 @@
 -- What a leader does with a transaction of its shard, in the words of a log.
-use Rattle.std.proofs.Common.{◌≡◌, ℕ, Bool, true, false, cond, ◌&&◌, ◌==◌, [], ◌∷◌, List, Some, None, Option, refl}
+use Rattle.std.proofs.Common.{◌≡◌, ℕ, Bool, true, false, ◌&&◌, ◌==◌, [], ◌∷◌, List, Some, None, Option, Ok, Err, refl}
 use Rattle.tcs_terms.specs.declared.ids.TxId.{TxId}
 use Rattle.tcs_terms.specs.declared.logs.Row.{Row}
 use Rattle.tcs_terms.specs.declared.inputs.Handled.TheVariants.{Full}
@@ -43,10 +43,6 @@ module _ (tests : Tests) (node : NodeRecord) (from epoch : ℕ) (txn : TxId) (sh
 
 -- ---- what an answer of the log tells
 
-pub full_where_none : (full : Bool) (entry : Preparation) → None ≡ cond full None (Some entry) → full ≡ true
-full_where_none true entry h = refl
-full_where_none false entry h = absurd cc
-
-pub room_where_some : (full : Bool) (entry answer : Preparation) → Some answer ≡ cond full None (Some entry) → (full ≡ false) × (answer ≡ entry)
-room_where_some true entry answer h = absurd cc
-room_where_some false entry answer h = (refl, cc)
+pub room_where_ok : {A E : Type 0} (full : Bool) (x : A) (e : E) → (full ≡ true → Ok x ≡ Err e) → full ≡ false
+room_where_ok true x e told = let other = told refl in absurd cc
+room_where_ok false x e told = refl

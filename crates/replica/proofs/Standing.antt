@@ -10,11 +10,11 @@ use Rattle.version_store.specs.Keeping.{StandsFor}
 use Rattle.version_store.proofs.Undecided.{stands_appended}
 use Rattle.cert_log.specs.Preparing.{rows_by, prepared_rows}
 
--- the rows that follow, or those before, by what a call returned
-pub stands_after : {A E : Type 0} (r : Result A E) (store : VersionStore) (before next now : List Row) → OnOk r (now ≡ next) → OnErr r (now ≡ before)
-    → StandsFor store before → StandsFor store next → StandsFor store now
-stands_after (Ok x) store before next now ok err was will = subst (λ rows. StandsFor store rows) (sym ok) will
-stands_after (Err e) store before next now ok err was will = subst (λ rows. StandsFor store rows) (sym err) was
+-- the rows that follow, or those before, by what a call returned on what owns them
+pub stands_after : {A E S : Type 0} (rows_of : S → List Row) (r : Result A E) (store : VersionStore) (before next now : S) → OnOk r (now ≡ next) → OnErr r (now ≡ before)
+    → StandsFor store (rows_of before) → StandsFor store (rows_of next) → StandsFor store (rows_of now)
+stands_after rows_of (Ok x) store before next now ok err was will = subst (λ s. StandsFor store (rows_of s)) (sym ok) will
+stands_after rows_of (Err e) store before next now ok err was will = subst (λ s. StandsFor store (rows_of s)) (sym err) was
 
 -- what a leader prepares
 pub stands_prepared : (store : VersionStore) (tests : Tests) (rows : List Row) (txn : TxId) (shards : List ℕ) (part : Option Accesses)

@@ -1,3 +1,2 @@
+pub mod Duties
 pub mod Replicas
-pub mod Roles
-pub mod Soundness

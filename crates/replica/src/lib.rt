@@ -4,14 +4,16 @@
 
 mod accepting;
 mod deciding;
+mod duties;
 mod following;
 mod leading;
 mod preparing;
 mod promising;
 mod replicas;
 mod roles;
-mod shard_logs;
+mod telling;
 #[cfg(test)]
 mod tests;
 
 pub use replicas::Replica;
+pub use roles::Role;

@@ -3,6 +3,7 @@ ghost use Rattle.std.specs.Prelude.{◌≡◌, IfOk};
 
 use crate::Replica;
 use cert_serial::Serial;
+use state_transfer::StatePiece;
 use std::alloc::Global;
 use std::process::Abort;
 use std::test::Fail;
@@ -34,9 +35,23 @@ fn a_new_member_takes_the_rows(rt: HostRuntime) -> Result<(), Fail> {
     let mut old = Node::first(alloc, 1, 1, Some(&config(alloc, 1, 3)?))?;
     let mut new = Node::first(alloc, 3, 1, None)?;
     accept_rows(&rt, alloc, &mut old)?;
-    hand_over(&rt, alloc, &mut old, &mut new, 2, &config(alloc, 2, 1)?)?;
-    hand_over(&rt, alloc, &mut old, &mut new, 1, &config(alloc, 3, 1)?)?;
+    hand_over(&rt, alloc, &mut old, &mut new, 2, config(alloc, 2, 1)?)?;
+    hand_over(&rt, alloc, &mut old, &mut new, 1, config(alloc, 3, 1)?)?;
+    assert_eq!(rt; (new.name(), new.shard(), new.rows().len()), (3, 1, 25));
     assert!(rt; new.row_of(txn(1)).is_some() && new.row_of(txn(25)).is_some());
+    Ok(())
+}
+
+/// A fenced node of state epoch 1 that promised 2 leads in no other epoch.
+#[test]
+fn a_promise_is_for_its_own_epoch(rt: HostRuntime) -> Result<(), Fail> {
+    let alloc = rt.alloc();
+    let mut node = Node::first(alloc, 1, 1, Some(&config(alloc, 1, 3)?))?;
+    let mut sent = Vec::new(alloc);
+    node.probe(alloc, 2, 2, &mut sent)?;
+    assert!(rt; node.role().is_fenced());
+    let answer = node.new_config(alloc, 1, config(alloc, 3, 1)?, &mut sent)?;
+    assert_eq!(rt; (answer, sent.len()), (Handled::Held(2), 1));
     Ok(())
 }
 
@@ -45,7 +60,7 @@ fn prepare_first(rt: &impl Abort, alloc: Global, node: &mut Node) -> Result<(), 
     let part = Some(payload(alloc)?);
     let shards = shards(alloc)?;
     let mut sent = Vec::new(alloc);
-    let answer = node.prepare(alloc, 1, 1, txn(1), &shards, &part, &mut sent)?;
+    let answer = node.prepare(alloc, 1, 1, txn(1), shards, part, &mut sent)?;
     assert_eq!(rt; answer, Handled::Acted);
     match sent.as_slice() {
         [
@@ -74,7 +89,7 @@ fn accept_rows(rt: &impl Abort, alloc: Global, node: &mut Node) -> Result<(), Fa
     let mut sent = Vec::new(alloc);
     for slot in 1..26 {
         let entry = entry(alloc, slot)?;
-        node.accept(alloc, 3, 1, &entry, &mut sent)?;
+        node.accept(3, 1, entry, &mut sent)?;
     }
     assert_eq!(rt; sent.len(), 25);
     Ok(())
@@ -87,19 +102,19 @@ fn hand_over(
     old: &mut Node,
     new: &mut Node,
     version: u8,
-    config: &Config,
+    config: Config,
 ) -> Result<(), Fail> {
+    let epoch = config.epoch();
     let mut sent = Vec::new(alloc);
-    old.probe(2, config.epoch(), &mut sent)?;
+    old.probe(alloc, 2, epoch, &mut sent)?;
     sent.clear();
     old.new_config(alloc, version, config, &mut sent)?;
-    for outgoing in sent.iter().rev() {
-        assert!(rt; takes(alloc, new, version, &outgoing.message)?);
+    assert!(rt; old.role().is_leader());
+    for outgoing in sent.into_iter().rev() {
+        assert!(rt; takes(alloc, new, version, outgoing.message)?);
     }
-    assert_eq!(rt;
-        (new.state(), new.promised()),
-        (config.epoch(), config.epoch())
-    );
+    assert!(rt; new.role().is_following());
+    assert_eq!(rt; (new.state(), new.promised()), (epoch, epoch));
     Ok(())
 }
 
@@ -108,7 +123,7 @@ fn takes(
     alloc: Global,
     node: &mut Node,
     version: u8,
-    message: &Message,
+    message: Message,
 ) -> Result<bool, OutOfMemory> {
     let answer = match message {
         Message::NewState { config, rows } => node.new_state(alloc, version, config, rows)?,
@@ -117,8 +132,13 @@ fn takes(
             piece,
             pieces,
             rows,
-        } if 1 <= *piece && *piece <= *pieces => {
-            node.state_piece(alloc, version, config, *pieces, *piece, rows)?
+        } if 1 <= piece && piece <= pieces => {
+            let piece = StatePiece {
+                number: piece,
+                pieces,
+                rows,
+            };
+            node.state_piece(alloc, version, config, piece)?
         }
         _ => return Ok(false),
     };
@@ -126,7 +146,9 @@ fn takes(
 }
 
 /// A configuration of shard 1 with the members 1 and 3.
-fn config(alloc: Global, epoch: Epoch, leader: u8) -> Result<Config, Fail> {
+fn config(alloc: Global, epoch: Epoch, leader: u8) -> Result<Config, Fail>
+    ensures { IfOk result (λ c. c.epoch ≡ epoch) }
+{
     Ok(Config::build(1, epoch, vec![in alloc; 1, 3]?, leader, 2)?)
 }
 

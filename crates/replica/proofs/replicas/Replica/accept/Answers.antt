@@ -6,7 +6,8 @@ use Rattle.replica.proofs.replicas.Replica.accept.Goals as goal
 
 pub returns-then-not-may_accept-clause-answer : goal.returns-then-not-may_accept-clause-answer
 unfolding on_accept when
-returns-then-not-may_accept-clause-answer g c = λ node. rw (sym c.may_accept.ensures ∙ c.if-not-may_accept.true, ← c.self.view_is) c.refusal.ensures
+returns-then-not-may_accept-clause-answer g c = λ node. c.refusal.ensures
+    ∙ rw (sym c.may_accept.ensures ∙ c.if-not-may_accept.true, c.promised.ensures.promised, c.role.ensures, ← c.self.view_is) refl
 
 pub returns-then-not-may_accept-clause-kept : goal.returns-then-not-may_accept-clause-kept
 unfolding on_accept when
@@ -23,7 +24,7 @@ returns-clause-answer g c = λ node. rw (sym c.may_accept.ensures ∙ c.if-not-m
 pub returns-clause-kept : goal.returns-clause-kept
 unfolding on_accept when
 returns-clause-kept g c = λ node.
-    rw (sym c.may_accept.ensures ∙ c.if-not-may_accept.false, c.in_ok-accept.ensures.rows, c.in_ok-copy.ensures, ← c.self.view_is) refl
+    rw (sym c.may_accept.ensures ∙ c.if-not-may_accept.false, c.in_ok-accept.ensures.rows, ← c.self.view_is) refl
 
 pub returns-clause-sends : goal.returns-clause-sends
 unfolding on_accept when

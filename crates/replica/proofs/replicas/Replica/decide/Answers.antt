@@ -6,15 +6,12 @@ use Rattle.replica.proofs.replicas.Replica.decide.Goals as goal
 
 pub returns-then-not-may_mark-clause-answer : goal.returns-then-not-may_mark-clause-answer
 unfolding on_decision when
-returns-then-not-may_mark-clause-answer g c = λ node. rw (sym c.may_mark.ensures ∙ c.if-not-may_mark.true, ← c.self.view_is) c.refusal.ensures
+returns-then-not-may_mark-clause-answer g c = λ node. c.refusal.ensures
+    ∙ rw (sym c.may_mark.ensures ∙ c.if-not-may_mark.true, c.state.ensures.state, c.role.ensures, ← c.self.view_is) refl
 
 pub returns-then-not-may_mark-clause-kept : goal.returns-then-not-may_mark-clause-kept
 unfolding on_decision when
 returns-then-not-may_mark-clause-kept g c = λ node. rw (sym c.may_mark.ensures ∙ c.if-not-may_mark.true) refl
-
-pub returns-then-not-may_mark-clause-sends : goal.returns-then-not-may_mark-clause-sends
-unfolding on_decision when
-returns-then-not-may_mark-clause-sends g c = λ node. rw (sym c.may_mark.ensures ∙ c.if-not-may_mark.true) refl
 
 pub returns-clause-answer : goal.returns-clause-answer
 unfolding on_decision when
@@ -23,8 +20,4 @@ returns-clause-answer g c = λ node. rw (sym c.may_mark.ensures ∙ c.if-not-may
 pub returns-clause-kept : goal.returns-clause-kept
 unfolding on_decision when
 returns-clause-kept g c = λ node.
-    rw (sym c.may_mark.ensures ∙ c.if-not-may_mark.false, c.in_ok-self-inside.ensures, c.replace-log.ensures.value, ← c.self.view_is) refl
-
-pub returns-clause-sends : goal.returns-clause-sends
-unfolding on_decision when
-returns-clause-sends g c = λ node. rw (sym c.may_mark.ensures ∙ c.if-not-may_mark.false) refl
+    rw (sym c.may_mark.ensures ∙ c.if-not-may_mark.false, c.in_ok-decide.ensures, ← c.self.view_is) refl

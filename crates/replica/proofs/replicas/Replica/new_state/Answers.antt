@@ -13,10 +13,6 @@ pub returns-then-not-may_take-clause-kept : goal.returns-then-not-may_take-claus
 unfolding on_new_state when
 returns-then-not-may_take-clause-kept g c = λ node. rw (sym c.may_take.ensures ∙ c.if-not-may_take.true) refl
 
-pub returns-then-not-may_take-clause-sends : goal.returns-then-not-may_take-clause-sends
-unfolding on_new_state when
-returns-then-not-may_take-clause-sends g c = λ node. rw (sym c.may_take.ensures ∙ c.if-not-may_take.true) refl
-
 pub returns-clause-answer : goal.returns-clause-answer
 unfolding on_new_state when
 returns-clause-answer g c = λ node. rw (sym c.may_take.ensures ∙ c.if-not-may_take.false) refl
@@ -24,9 +20,4 @@ returns-clause-answer g c = λ node. rw (sym c.may_take.ensures ∙ c.if-not-may
 pub returns-clause-kept : goal.returns-clause-kept
 unfolding on_new_state when
 returns-clause-kept g c = λ node.
-    c.in_ok-follow.ensures node
-    ∙ rw (sym c.may_take.ensures ∙ c.if-not-may_take.false, c.in_ok-rows.ensures.copy, c.drop_below.ensures, c.epoch-2.ensures.epoch, ← c.self.view_is) refl
-
-pub returns-clause-sends : goal.returns-clause-sends
-unfolding on_new_state when
-returns-clause-sends g c = λ node. rw (sym c.may_take.ensures ∙ c.if-not-may_take.false) refl
+    rw (sym c.may_take.ensures ∙ c.if-not-may_take.false, c.in_ok-follow.ensures.follows, c.into_list.ensures.list, c.drop_below.ensures, c.epoch-2.ensures.epoch, ← c.self.view_is, ← c.config.view_is) refl

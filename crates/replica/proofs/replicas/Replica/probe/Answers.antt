@@ -1,11 +1,12 @@
 -- A promise that is too low is refused, and another one is given.
-use Rattle.std.proofs.Common.{◌≡◌, true, false, refl, sym, arith, append-nil}
+use Rattle.std.proofs.Common.{◌≡◌, true, false, refl, sym, ap, ◌∙◌, arith, append-nil}
 use Rattle.std.proofs.lemmas.Bool.Decides.{nat_tests}
 use Rattle.std.specs.Prelude.{nat_le}
 use Rattle.protocol.specs.Choices.{when}
 use Rattle.protocol.specs.Outcomes.{refuses}
 use Rattle.protocol.specs.Records.{NodeRecord}
 use Rattle.protocol.specs.ShardRules.{least, on_probe}
+use Rattle.replica.specs.Duties.{DutyState}
 use Rattle.replica.specs.Replicas.{within}
 use Rattle.replica.proofs.replicas.Replica.probe.Given.{Over}
 use Rattle.replica.proofs.replicas.Replica.probe.Goals as goal
@@ -18,7 +19,7 @@ unmet g c node =
     let low : nat_le (least (within node c.args.self.now)) c.args.epoch ≡ false = grind (arith, nat_tests) in
     rw (low, is) refl
 
-high : (g : Over) (c : goal.After-drop_below g) (node : NodeRecord) → nat_le (least (within node c.args.self.now)) c.args.epoch ≡ true
+high : (g : Over) (c : goal.After-self-2-1 g) (node : NodeRecord) → nat_le (least (within node c.args.self.now)) c.args.epoch ≡ true
 high g c node = let is = c.least-least.ensures in grind (arith, nat_tests)
 
 pub returns-then-epoch-least-clause-answer : goal.returns-then-epoch-least-clause-answer
@@ -36,8 +37,10 @@ returns-clause-answer g c = λ node. rw (high g c node) refl
 
 pub returns-clause-kept : goal.returns-clause-kept
 unfolding on_probe when
-returns-clause-kept g c = λ node. rw (high g c node, c.drop_below.ensures, ← c.self.view_is) refl
+returns-clause-kept g c = λ node. rw (high g c node, c.fence.ensures, c.drop_below.ensures, ← c.self.view_is) refl
 
 pub returns-clause-sends : goal.returns-clause-sends
 unfolding on_probe when
-returns-clause-sends g c = λ node. rw (high g c node, ← c.self.view_is) c.in_ok-push.ensures.items
+returns-clause-sends g c = λ node.
+    let state = c.state.ensures.state ∙ ap (λ (d : DutyState). d.state) c.role.ensures in
+    rw (high g c node, ← c.self.view_is, ← state) c.in_ok-push.ensures.items
