@@ -1,18 +1,18 @@
 -- A line of the header that is read is the next one of a setup.
-use Rattle.std.proofs.Common.{◌≡◌, inl, inr, ℕ, zero, suc, ◌+◌, ◌^◌, ◌<◌, ◌≤◌, Bool, true, false, not, cond, is_none, List, [], ◌∷◌, ◌++◌, length, map, All, Option, Some, None, Ok, Err, refl, sym, ◌∙◌, ap, subst, append_assoc, arith, codes, decimal}
+use Rattle.std.proofs.Common.{◌≡◌, ℕ, zero, suc, ◌+◌, ◌^◌, ◌<◌, ◌≤◌, Bool, true, false, not, cond, is_none, List, [], ◌∷◌, ◌++◌, length, map, All, Option, Some, None, Ok, Err, refl, sym, ◌∙◌, ap, subst, append_assoc, arith, codes, decimal}
 use Rattle.std.specs.Prelude.{nat_le, nat_lt, ◌==◌, ◌&&◌}
 use Rattle.std.proofs.lemmas.Bool.{eqb-true}
 use Rattle.std.proofs.lemmas.Bool.Decides.{nat_tests}
 use Rattle.std.proofs.lemmas.List.{nil_from_length, append-nil, length-append}
 use Rattle.tcs_terms.specs.declared.limits.TheConstants.{MAX_SHARDS, MAX_NODES, MAX_MEMBERS}
 use Rattle.tcs_terms.specs.declared.setups.Rule.{Rule}
-use Rattle.tcs_terms.specs.declared.setups.Rule.TheVariants as rules
 use Rattle.tcs_terms.specs.declared.words.Reason.TheVariants as reasons
 use Rattle.tcs_terms.specs.ConfigFaults.{config_fault}
 use Rattle.tcs_terms.specs.Places.{Membership, IsMembership}
 use Rattle.tcs_terms.specs.SetupFaults.{setup_fault}
 use Rattle.tcs_terms.specs.Setups.{Deployment, IsDeployment}
 use Rattle.tcs_terms.specs.Words.{words_of, begins, after}
+use Rattle.tcs_terms.proofs.BoolLaws.{right_of}
 use Rattle.tcs_terms.proofs.PlaceLaws.{is_membership_without_fault}
 use Rattle.tcs_terms.proofs.SetupLaws.{is_deployment_without_fault}
 use Rattle.schedule_text.specs.declared.places.Place.{Place}
@@ -46,7 +46,7 @@ abbrev pub HeadStands : Place → Deployment → Type 0
 HeadStands places.Version d = (d.nodes ≡ []) × (d.configs ≡ [])
 HeadStands places.Certifier d = (d.nodes ≡ []) × (d.configs ≡ [])
 HeadStands places.Shards d = (d.nodes ≡ []) × (d.configs ≡ [])
-HeadStands places.Parts d = All IsMembership d.configs × (length d.nodes ≤ MAX_NODES)
+HeadStands places.Parts d = All IsMembership d.configs × (length d.nodes ≤ MAX_NODES) × (d.shards ≤ MAX_SHARDS) × (length d.configs ≤ d.shards)
 HeadStands places.Events d = IsDeployment d
 HeadStands places.Ended d = IsDeployment d
 
@@ -120,10 +120,12 @@ shards_takes d line x stands h =
     fixed_takes (codes "shards") (words_of line) a.0 a.1 ∙ ap (λ (ws : List (List ℕ)). codes "shards" ∷ ws) (t.word ∙ ap (λ (ws : List (List ℕ)). decimal b.0.0 ∷ ws) (end_takes b.0.1 e.0 e.1)) in
     let same : line ≡ shards_line b.0.0 = same_words line (shards_line b.0.0) (words ∙ sym (words_of_shards b.0.0 t.small)) in
     let front = version_line d.version ∷ certifier_line d.rule ∷ [] in
+    let within = t.passes in
+    let few : b.0.0 ≤ MAX_SHARDS = grind (arith, nat_tests) in
     subst (HeadStep places.Shards d line) (ok_is (None, record { place = places.Parts; setup = record d { shards = b.0.0 } }) x e.2) (record {
       lines = ap (λ (ls : List (List ℕ)). version_line d.version ∷ certifier_line d.rule ∷ shards_line b.0.0 ∷ ls) (no_parts_yet d stands)
           ∙ ap (λ (l : List ℕ). version_line d.version ∷ certifier_line d.rule ∷ l ∷ []) (sym same);
-      stands = (rw stands.1 (λ k c lt. absurd (omega arith)), rw stands.0 (omega arith));
+      stands = (rw stands.1 (λ k c lt. absurd (omega arith)), rw stands.0 (omega arith), few, omega (arith, ap length stands.1));
       item = refl;
     })
 
@@ -169,7 +171,7 @@ node_takes d line rest x stands none first h =
     let room = n.3 in
     subst (HeadStep places.Parts d line) (ok_is (None, record { place = places.Parts; setup = record d { nodes = d.nodes ++ b.0.0 ∷ [] } }) x e.2) (record {
       lines = node_added d b.0.0 none ∙ ap (λ (l : List ℕ). head_lines places.Parts d ++ l ∷ []) (sym is_line);
-      stands = (stands.0, omega (arith, length-append d.nodes (b.0.0 ∷ []), room));
+      stands = (stands.0, omega (arith, length-append d.nodes (b.0.0 ∷ []), room), stands.2, stands.3);
       item = refl;
     })
 
@@ -238,17 +240,19 @@ config_added d c =
     ∙ ap (λ (ls : List (List ℕ)). first_lines d ++ ls) (sym (append_assoc (node_lines 1 d.nodes) (map config_line d.configs) (config_line c ∷ [])))
     ∙ sym (append_assoc (first_lines d) (node_lines 1 d.nodes ++ map config_line d.configs) (config_line c ∷ []))
 
-config_takes : (d : Deployment) (line : List ℕ) (rest : List (List ℕ)) (x : Option Deployment × Head) → HeadStands places.Parts d → words_of line ≡ codes "config" ∷ rest
-    → config_at d rest ≡ Ok x → HeadStep places.Parts d line x
+config_takes : (d : Deployment) (line : List ℕ) (rest : List (List ℕ)) (x : Option Deployment × Head) → HeadStands places.Parts d → (not (length d.nodes == 0) && nat_lt (length d.configs) d.shards) ≡ true
+    → words_of line ≡ codes "config" ∷ rest → config_at d rest ≡ Ok x → HeadStep places.Parts d line x
 unfolding config_at
-config_takes d line rest x stands first h =
+config_takes d line rest x stands may first h =
+    let below = right_of (not (length d.nodes == 0)) (nat_lt (length d.configs) d.shards) may in
+    let room : length d.configs < d.shards = grind (arith, nat_tests) in
     let a = bind_ok (first_config_at d rest) _ x h in
     let t = first_config_takes d rest a.0 stands.1 a.1 in
     let words : words_of line ≡ codes "config" ∷ decimal a.0.shard ∷ decimal a.0.leader ∷ map decimal a.0.members = first ∙ ap (λ (ws : List (List ℕ)). codes "config" ∷ ws) t.spelled in
     let same : line ≡ config_line a.0 = same_words line (config_line a.0) (words ∙ sym (words_of_config a.0 t.shard t.leader t.members)) in
     subst (HeadStep places.Parts d line) (ok_is (None, record { place = places.Parts; setup = record d { configs = d.configs ++ a.0 ∷ [] } }) x a.2) (record {
       lines = config_added d a.0 ∙ ap (λ (l : List ℕ). head_lines places.Parts d ++ l ∷ []) (sym same);
-      stands = (all_end IsMembership d.configs a.0 stands.0 t.is, stands.1);
+      stands = (all_end IsMembership d.configs a.0 stands.0 t.is, stands.1, stands.2, omega (arith, length-append d.configs (a.0 ∷ []), room));
       item = refl;
     })
 
@@ -289,10 +293,10 @@ events_takes only d line x stands h =
 part_takes : (only : Option ℕ) (d : Deployment) (line : List ℕ) (x : Option Deployment × Head) → HeadStands places.Parts d → part_at only d (words_of line) ≡ Ok x → HeadStep places.Parts d line x
 unfolding part_at
 part_takes only d line x stands h = node_or (length d.configs == 0) (begins (codes "node") (words_of line)) refl refl h where
-  config_or_events : (a b : Bool) → begins (codes "config") (words_of line) ≡ b → cond (a && b) (config_at d (after (words_of line))) (events_at only d (words_of line)) ≡ Ok x → HeadStep places.Parts d line x
-  config_or_events true true e k = config_takes d line (after (words_of line)) x stands (begun (codes "config") (words_of line) e) k
-  config_or_events true false e k = events_takes only d line x stands k
-  config_or_events false b e k = events_takes only d line x stands k
+  config_or_events : (a b : Bool) → (not (length d.nodes == 0) && nat_lt (length d.configs) d.shards) ≡ a → begins (codes "config") (words_of line) ≡ b → cond (a && b) (config_at d (after (words_of line))) (events_at only d (words_of line)) ≡ Ok x → HeadStep places.Parts d line x
+  config_or_events true true may e k = config_takes d line (after (words_of line)) x stands may (begun (codes "config") (words_of line) e) k
+  config_or_events true false may e k = events_takes only d line x stands k
+  config_or_events false b may e k = events_takes only d line x stands k
 
   node_or : (a b : Bool) → (length d.configs == 0) ≡ a → begins (codes "node") (words_of line) ≡ b
       → cond (a && b) (node_at d (after (words_of line)))
@@ -300,8 +304,8 @@ part_takes only d line x stands h = node_or (length d.configs == 0) (begins (cod
       ≡ Ok x
       → HeadStep places.Parts d line x
   node_or true true e f k = node_takes d line (after (words_of line)) x stands (nil_from_length d.configs (eqb-true _ _ e)) (begun (codes "node") (words_of line) f) k
-  node_or true false e f k = config_or_events (not (length d.nodes == 0) && nat_lt (length d.configs) d.shards) (begins (codes "config") (words_of line)) refl k
-  node_or false b e f k = config_or_events (not (length d.nodes == 0) && nat_lt (length d.configs) d.shards) (begins (codes "config") (words_of line)) refl k
+  node_or true false e f k = config_or_events (not (length d.nodes == 0) && nat_lt (length d.configs) d.shards) (begins (codes "config") (words_of line)) refl refl k
+  node_or false b e f k = config_or_events (not (length d.nodes == 0) && nat_lt (length d.configs) d.shards) (begins (codes "config") (words_of line)) refl refl k
 
 pub head_takes : (only : Option ℕ) (place : Place) (d : Deployment) (line : List ℕ) (x : Option Deployment × Head) → HeadStands place d → head_at only place d (words_of line) ≡ Ok x
     → HeadStep place d line x

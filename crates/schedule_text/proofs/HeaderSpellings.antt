@@ -7,7 +7,6 @@ use Rattle.std.proofs.lemmas.Bool.Decides.{nat_tests}
 use Rattle.std.proofs.lemmas.List.{length-map}
 use Rattle.tcs_terms.specs.declared.limits.TheConstants.{MAX_SHARDS, MAX_NODES, MAX_MEMBERS}
 use Rattle.tcs_terms.specs.declared.setups.Rule.{Rule}
-use Rattle.tcs_terms.specs.declared.setups.Rule.TheVariants as rules
 use Rattle.tcs_terms.specs.ConfigFaults.{config_fault}
 use Rattle.tcs_terms.specs.Places.{Membership, IsMembership, is_among}
 use Rattle.tcs_terms.specs.Setups.{Deployment, IsDeployment, has_node, is_node_of, is_first}

@@ -1,4 +1,6 @@
 mod BufferLemmas
+pub mod BytesRead
+pub mod FirstBadLines
 pub mod CursorLemmas
 pub mod EventReadings
 pub mod EventSpellings

@@ -41,11 +41,11 @@ use Rattle.schedule_text.proofs.Steps.{bind_ok, ok_is, not_both}
 
 -- ---- lines that are read, joined
 
-reads_one : (p : Progress) (line : List ℕ) (i : LineItem) (q : Progress) (lines : List (List ℕ)) (is : List LineItem) (r : Progress)
+pub reads_one : (p : Progress) (line : List ℕ) (i : LineItem) (q : Progress) (lines : List (List ℕ)) (is : List LineItem) (r : Progress)
     → line_reading p Whole line ≡ Ok (i, q) → reads q lines ≡ Ok (is, r) → reads p (line ∷ lines) ≡ Ok (i ∷ is, r)
 reads_one p line i q lines is r h k = rw (h, k) refl
 
-reads_append : (xs ys : List (List ℕ)) (p q : Progress) (is js : List LineItem) (r : Progress) → reads p xs ≡ Ok (is, q) → reads q ys ≡ Ok (js, r) → reads p (xs ++ ys) ≡ Ok (is ++ js, r)
+pub reads_append : (xs ys : List (List ℕ)) (p q : Progress) (is js : List LineItem) (r : Progress) → reads p xs ≡ Ok (is, q) → reads q ys ≡ Ok (js, r) → reads p (xs ++ ys) ≡ Ok (is ++ js, r)
 reads_append [] ys p q is js r h k =
     let e : ◌≡◌ {A = List LineItem × Progress} ([], p) (is, q) = ok_is ([], p) (is, q) h in
     let i : [] ≡ is = ap (λ (x : List LineItem × Progress). x.0) e in
@@ -216,7 +216,7 @@ each_of P (x ∷ xs) h = (h 0 x (omega arith), each_of P xs (λ k d lt. h (suc k
 abbrev with_nodes : Deployment → Deployment
 with_nodes d = record { version = d.version; rule = d.rule; shards = d.shards; nodes = d.nodes; configs = [] }
 
-firsts_of : (d : Deployment) → IsDeployment d → (length d.configs ≡ d.shards) × (firsts_from d.nodes 1 d.configs ≡ true)
+pub firsts_of : (d : Deployment) → IsDeployment d → (length d.configs ≡ d.shards) × (firsts_from d.nodes 1 d.configs ≡ true)
 firsts_of d is =
     let some_shards = is.some_shards in
     let few_shards = is.few_shards in
@@ -272,7 +272,7 @@ schedule_read d es h =
 
 -- ---- what is refused
 
-splits : (xs ys : List (List ℕ)) (p q : Progress) (is : List LineItem) (x : List LineItem × Progress) → reads p xs ≡ Ok (is, q) → reads p (xs ++ ys) ≡ Ok x
+pub splits : (xs ys : List (List ℕ)) (p q : Progress) (is : List LineItem) (x : List LineItem × Progress) → reads p xs ≡ Ok (is, q) → reads p (xs ++ ys) ≡ Ok x
     → (y : List LineItem × Progress) × (reads q ys ≡ Ok y)
 splits [] ys p q is x h k =
     let e : ◌≡◌ {A = List LineItem × Progress} ([], p) (is, q) = ok_is ([], p) (is, q) h in

@@ -6,7 +6,6 @@ use Rattle.tcs_terms.specs.declared.setups.Rule.TheVariants as rules
 use Rattle.tcs_terms.specs.declared.words.Reason.{Reason}
 use Rattle.tcs_terms.specs.declared.words.Reason.TheVariants as reasons
 use Rattle.tcs_terms.specs.ConfigFaults.{config_fault}
-use Rattle.tcs_terms.specs.Payloads.{same_name}
 use Rattle.tcs_terms.specs.Places.{Membership}
 use Rattle.tcs_terms.specs.SetupFaults.{setup_fault}
 use Rattle.tcs_terms.specs.Texts.{rule_in}

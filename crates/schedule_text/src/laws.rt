@@ -1,15 +1,19 @@
 //! The laws of the text of a schedule: what is printed is read as it was, and what is read is what would be printed.
-ghost use Rattle.std.specs.Prelude.{◌≡◌, ℕ, List, ◌∷◌, ◌++◌, length, Ok, Err};
+ghost use Rattle.std.specs.Prelude.{◌≡◌, ◌≤◌, ◌+◌, ℕ, List, [], ◌∷◌, ◌++◌, length, Ok, Err};
 ghost use Rattle.std.specs.List.{AllByRecursion};
 ghost use Rattle.tcs_terms.specs.declared.inputs.Event.{Event};
 ghost use Rattle.tcs_terms.specs.declared.words.Reason.{Reason};
+ghost use Rattle.tcs_terms.specs.declared.limits.TheConstants.{MAX_NODES, MAX_SHARDS};
+ghost use Rattle.tcs_terms.specs.Runs.{MayStand};
 ghost use Rattle.tcs_terms.specs.Setups.{Deployment};
+ghost use Rattle.schedule_text.specs.declared.limits.TheConstants.{EVENT_LIMIT};
 ghost use Rattle.schedule_text.specs.declared.lines.Got.TheVariants.{Whole};
 ghost use Rattle.schedule_text.specs.declared.places.Place.TheVariants.{Events, Ended};
 ghost use Rattle.schedule_text.specs.declared.reader.LineItem.{LineItem};
 ghost use Rattle.schedule_text.specs.Lines.{IsLine};
 ghost use Rattle.schedule_text.specs.Text.{schedule_lines};
 ghost use Rattle.schedule_text.specs.Schedules.{Progress, at_start, line_reading};
+ghost use Rattle.schedule_text.specs.Bytes.{IsText, Taken, FirstBad, events_on};
 ghost use Rattle.schedule_text.specs.Whole.{IsSchedule, IsRead, Begins, reads, schedule_items, at_end};
 
 /// The lines of a schedule are read as its setup and its events, in order.
@@ -42,4 +46,39 @@ pub fn what_is_read_begins_a_schedule()
 /// No line of a schedule has a line feed, and none is too long for a line.
 pub fn every_line_is_one()
     ensures { (d : Deployment) (es : List Event) → IsSchedule d es → AllByRecursion IsLine (schedule_lines d es) }
+{}
+
+/// The lines of a schedule's text are taken one after the other, and nothing stands behind the last of them.
+pub fn a_text_is_taken()
+    ensures { (bytes : List ℕ) (d : Deployment) (es : List Event) → IsText bytes d es → Taken bytes (schedule_lines d es) (schedule_items d es) (at_end d (length es)) [] }
+{}
+
+/// Bytes of which all lines are taken, the line `end` last, are the text of a schedule.
+pub fn what_is_taken_is_a_text()
+    ensures { (bytes : List ℕ) (lines : List (List ℕ)) (is : List LineItem) (p : Progress) → Taken bytes lines is p [] → p.head.place ≡ Ended → IsText bytes p.head.setup (events_on is) }
+{}
+
+/// Bytes are the text of one schedule at most.
+pub fn one_text()
+    ensures { (bytes : List ℕ) (d e : Deployment) (es fs : List Event) → IsText bytes d es → IsText bytes e fs → (d ≡ e) × (es ≡ fs) }
+{}
+
+/// The text of a schedule has no bad line.
+pub fn no_text_has_a_bad_line()
+    ensures { (bytes : List ℕ) (number : ℕ) (reason : Reason) (is : List LineItem) (d : Deployment) (es : List Event) → FirstBad bytes number reason is → IsText bytes d es → ⊥ }
+{}
+
+/// Bytes have one first bad line at most, which is bad for one reason.
+pub fn one_first_bad_line()
+    ensures { (bytes : List ℕ) (m n : ℕ) (x y : Reason) (is js : List LineItem) → FirstBad bytes m x is → FirstBad bytes n y js → (m ≡ n) × (x ≡ y) × (is ≡ js) }
+{}
+
+/// The events on lines that are read may stand in a schedule of the setup: each fits it, and hands in a payload.
+pub fn what_is_read_may_stand()
+    ensures { (lines : List (List ℕ)) (is : List LineItem) (p : Progress) → reads at_start lines ≡ Ok (is, p) → AllByRecursion (MayStand p.head.setup) (events_on is) }
+{}
+
+/// A header, its events and the line `end` are no more lines than these.
+pub fn few_lines_are_read()
+    ensures { (lines : List (List ℕ)) (is : List LineItem) (p : Progress) → reads at_start lines ≡ Ok (is, p) → length lines ≤ 5 + MAX_NODES + MAX_SHARDS + EVENT_LIMIT }
 {}

@@ -59,10 +59,19 @@ fn texts(rt: HostRuntime) -> Result<(), Fail> {
 #[test]
 fn answers_where_there_is_memory(rt: HostRuntime) -> Result<(), Fail> {
     let alloc = rt.alloc();
-    assert_eq!(rt; Name::build(alloc, &[97; 32])?.copy(alloc)?.bytes().len(), 32);
-    assert_eq!(rt; Value::build(alloc, &[255; 64])?.copy(alloc)?.bytes().len(), 64);
+    assert_eq!(rt;
+        Name::build(alloc, &[97; 32])?.copy(alloc)?.bytes().len(),
+        32
+    );
+    assert_eq!(rt;
+        Value::build(alloc, &[255; 64])?.copy(alloc)?.bytes().len(),
+        64
+    );
     let payload = read_payload(alloc, b"v 2 r a 0 r b 1 w b 05", 1)?;
-    assert_eq!(rt; payload.shards(alloc, 2)?.copy(alloc)?.list(), [1, 2].as_slice());
+    assert_eq!(rt;
+        payload.shards(alloc, 2)?.copy(alloc)?.list(),
+        [1, 2].as_slice()
+    );
     for (shard, n, reads) in [(2, 2, 1), (1, 1, 2)] {
         let part = payload.restrict(alloc, shard, n)?.ok_or("a part")?;
         assert_eq!(rt; part.reads().len(), reads);
@@ -98,7 +107,15 @@ fn events_of_a_setup(rt: HostRuntime) -> Result<(), Fail> {
     let calls = [
         (1, Input::Nudge, true, true),
         (3, Input::Nudge, false, true),
-        (2, Input::Take(TxId { home: 2, seq: 1_000_001 }), false, true),
+        (
+            2,
+            Input::Take(TxId {
+                home: 2,
+                seq: 1_000_001,
+            }),
+            false,
+            true,
+        ),
         (2, Input::Ask(2), false, true),
         (2, Input::Ask(17), false, false),
         (1, moved(vec![in alloc; 2]?), true, true),

@@ -1,18 +1,22 @@
 -- Frames behind the names of their kinds: what is read is spelled so, and what is spelled so is read.
-use Rattle.std.proofs.Common.{◌≡◌, ℕ, ◌<◌, Bool, true, false, not, ◌&&◌, cond, List, ◌∷◌, ◌++◌, Some, Result, Ok, Err, refl, sym, ap, subst, ◌∙◌, arith}
+use Rattle.std.proofs.Common.{◌≡◌, ℕ, ◌<◌, Bool, true, not, ◌&&◌, List, ◌∷◌, ◌++◌, Option, Some, None, Result, Ok, Err, refl, sym, ap, subst, ◌∙◌, arith}
 use Rattle.std.specs.Prelude.{◌==◌, nat_le, slice_index, codes}
 use Rattle.std.specs.List.{list_all}
 use Rattle.std.proofs.lemmas.Bool.Decides.{nat_tests}
 use Rattle.std.specs.Result.{result_ok}
 use Rattle.std.specs.Cmp.Lexicographic.{bytes_decides}
 use Rattle.hex.specs.Hex.{encode_lower}
+use Rattle.tcs_terms.specs.declared.kinds.Kind.{Kind}
+use Rattle.tcs_terms.specs.declared.kinds.Kind.TheVariants as kinds
 use Rattle.tcs_terms.specs.declared.messages.Message.{Message}
+use Rattle.tcs_terms.specs.Kinds.{kind_of, kind_word, kind_numbered}
 use Rattle.tcs_terms.proofs.BoolLaws.{left_of, right_of}
 use Rattle.wire_frame.specs.declared.faults.Fault.{Fault}
-use Rattle.wire_frame.specs.Spelling.{kind_of, spell}
+use Rattle.wire_frame.specs.Spelling.{spell}
 use Rattle.wire_frame.specs.Frames.{read_frame}
+use Rattle.wire_frame.proofs.KindFields.{numbered_again}
 use Rattle.wire_frame.proofs.FrameLaws.{kind_is, frame_takes, frame_again}
-use Rattle.trace_text.specs.Texts.{kind_text}
+use Rattle.trace_text.specs.Texts.{name_of, kind_text}
 use Rattle.trace_text.specs.Versions.{message_fits}
 use Rattle.trace_text.specs.Lines.{IsFrame}
 use Rattle.trace_text.specs.Words.{cut, is_word, bytes_in}
@@ -30,6 +34,10 @@ is_read : (r : Result Message Fault) (m : Message) → result_ok r ≡ Some m �
 is_read (Ok n) m e = cc
 is_read (Err f) m e = absurd cc
 
+-- the first byte of a frame names its kind
+frame_names : (frame : List ℕ) (m : Message) → frame ≡ spell m → kind_text (slice_index frame 0) ≡ kind_word (kind_of m)
+frame_names frame m spelled = ap (λ (f : List ℕ). kind_text (slice_index f 0)) spelled ∙ ap kind_text (kind_is m) ∙ ap name_of (numbered_again (kind_of m))
+
 pub frame_takes_text : (version : ℕ) (text frame : List ℕ) → frame_in version text ≡ Some frame → (text ≡ frame_text frame) × IsFrame version frame
 unfolding frame_in
 frame_takes_text version text frame h =
@@ -39,17 +47,17 @@ frame_takes_text version text frame h =
     let c = cut_takes 32 text words.0 words.1 in
     let b = bytes_takes words.0.1 bytes.0 bytes.1 in
     let m = frame_takes bytes.0 message.0 b.1 (is_read (read_frame bytes.0) message.0 message.1) in
-    let k = kept (is_word (kind_text (kind_of message.0)) words.0.0 && message_fits version message.0) bytes.0 frame message.2 in
-    let named = word_is (kind_text (kind_of message.0)) words.0.0 (left_of (is_word (kind_text (kind_of message.0)) words.0.0) (message_fits version message.0) k.0) in
-    let first : kind_of message.0 ≡ slice_index bytes.0 0 = sym (ap (λ (f : List ℕ). slice_index f 0) m.1 ∙ kind_is message.0) in
+    let k = kept (is_word (kind_word (kind_of message.0)) words.0.0 && message_fits version message.0) bytes.0 frame message.2 in
+    let named = word_is (kind_word (kind_of message.0)) words.0.0 (left_of (is_word (kind_word (kind_of message.0)) words.0.0) (message_fits version message.0) k.0) in
+    let first : kind_word (kind_of message.0) ≡ kind_text (slice_index bytes.0 0) = sym (frame_names bytes.0 message.0 m.1) in
     subst (λ (f : List ℕ). (text ≡ frame_text f) × IsFrame version f) k.1 (
-      c.whole ∙ ap (λ (v : List ℕ). v ++ 32 ∷ words.0.1) (named ∙ ap kind_text first) ∙ ap (λ (v : List ℕ). kind_text (slice_index bytes.0 0) ++ 32 ∷ v) b.0,
+      c.whole ∙ ap (λ (v : List ℕ). v ++ 32 ∷ words.0.1) (named ∙ first) ∙ ap (λ (v : List ℕ). kind_text (slice_index bytes.0 0) ++ 32 ∷ v) b.0,
       record {
         are_bytes = b.1;
         message = message.0;
         in_range = m.0;
         spelled = m.1;
-        fits = right_of (is_word (kind_text (kind_of message.0)) words.0.0) (message_fits version message.0) k.0;
+        fits = right_of (is_word (kind_word (kind_of message.0)) words.0.0) (message_fits version message.0) k.0;
       },
     )
 
@@ -59,26 +67,36 @@ same_word word = (bytes_decides word word).1 refl
 abbrev are_letters : List ℕ → Bool
 are_letters text = list_all (λ b. nat_le 65 b) text
 
-one_of : (b : Bool) (x y : List ℕ) → are_letters x ≡ true → are_letters y ≡ true → are_letters (cond b x y) ≡ true
-one_of true x y p q = p
-one_of false x y p q = q
+word_letters : (kind : Kind) → are_letters (kind_word kind) ≡ true
+word_letters kinds.Prepare = refl
+word_letters kinds.PrepareAck = refl
+word_letters kinds.Accept = refl
+word_letters kinds.AcceptAck = refl
+word_letters kinds.Decision = refl
+word_letters kinds.Probe = refl
+word_letters kinds.ProbeAck = refl
+word_letters kinds.NewConfig = refl
+word_letters kinds.NewState = refl
+word_letters kinds.ConfigChange = refl
+word_letters kinds.Last = refl
+word_letters kinds.At = refl
+word_letters kinds.Cas = refl
+word_letters kinds.Stored = refl
+word_letters kinds.Outcome = refl
+word_letters kinds.Refused = refl
+word_letters kinds.StatePiece = refl
 
-kind_letters : (kind : ℕ) → are_letters (kind_text kind) ≡ true
-kind_letters kind =
-    one_of (kind == 1) (codes "PREPARE") _ refl (one_of (kind == 2) (codes "PREPARE_ACK") _ refl (one_of (kind == 3) (codes "ACCEPT") _ refl (
-    one_of (kind == 4) (codes "ACCEPT_ACK") _ refl (one_of (kind == 5) (codes "DECISION") _ refl (one_of (kind == 6) (codes "PROBE") _ refl (
-    one_of (kind == 7) (codes "PROBE_ACK") _ refl (one_of (kind == 8) (codes "NEW_CONFIG") _ refl (one_of (kind == 9) (codes "NEW_STATE") _ refl (
-    one_of (kind == 10) (codes "CONFIG_CHANGE") _ refl (one_of (kind == 11) (codes "LAST") _ refl (one_of (kind == 12) (codes "AT") _ refl (
-    one_of (kind == 13) (codes "CAS") _ refl (one_of (kind == 14) (codes "STORED") _ refl (one_of (kind == 15) (codes "OUTCOME") _ refl (
-    one_of (kind == 16) (codes "REFUSED") _ refl (refl))))))))))))))))
+name_letters : (kind : Option Kind) → are_letters (name_of kind) ≡ true
+name_letters None = refl
+name_letters (Some kind) = word_letters kind
 
 pub kind_lacks : (byte kind : ℕ) → byte < 65 → lacks byte (kind_text kind) ≡ true
-kind_lacks byte kind low = weaker (λ b. nat_le 65 b) (λ b. not (b == byte)) (λ b h. grind (arith, nat_tests)) (kind_text kind) (kind_letters kind)
+kind_lacks byte kind low = weaker (λ b. nat_le 65 b) (λ b. not (b == byte)) (λ b h. grind (arith, nat_tests)) (kind_text kind) (name_letters (kind_numbered kind))
 
 pub frame_reads_again : (version : ℕ) (frame : List ℕ) → IsFrame version frame → frame_in version (frame_text frame) ≡ Some frame
 unfolding frame_in
 frame_reads_again version frame h =
-    let first : slice_index frame 0 ≡ kind_of h.message = ap (λ (f : List ℕ). slice_index f 0) h.spelled ∙ kind_is h.message in
+    let first : kind_text (slice_index frame 0) ≡ kind_word (kind_of h.message) = frame_names frame h.message h.spelled in
     let read : read_frame frame ≡ Ok h.message = ap read_frame h.spelled ∙ frame_again h.message h.in_range in
-    let named : is_word (kind_text (kind_of h.message)) (kind_text (slice_index frame 0)) ≡ true = rw first (same_word (kind_text (kind_of h.message))) in
+    let named : is_word (kind_word (kind_of h.message)) (kind_text (slice_index frame 0)) ≡ true = rw first (same_word (kind_word (kind_of h.message))) in
     rw (cut_again 32 (kind_text (slice_index frame 0)) (encode_lower frame) (kind_lacks 32 (slice_index frame 0) (omega arith)), bytes_again frame h.are_bytes, read, named, h.fits) refl

@@ -13,14 +13,13 @@ use Rattle.tcs_terms.specs.declared.inputs.Result1.{Result1}
 use Rattle.tcs_terms.specs.declared.inputs.Result1.TheVariants as results
 use Rattle.tcs_terms.specs.declared.inputs.Note.{Note}
 use Rattle.tcs_terms.specs.declared.inputs.Note.TheVariants as notes
+use Rattle.tcs_terms.specs.Kinds.{kind_of, kind_word}
 use Rattle.tcs_terms.specs.PayloadWords.{number_in, value_in, reading}
 use Rattle.tcs_terms.specs.Words.{words_of}
-use Rattle.wire_frame.specs.Spelling.{kind_of}
 use Rattle.wire_frame.specs.Frames.{read_frame}
 use Rattle.trace_text.specs.declared.items.TraceItem.{TraceItem}
 use Rattle.trace_text.specs.declared.items.TraceFault.{TraceFault}
 use Rattle.trace_text.specs.declared.items.TraceFault.TheVariants.{Bad, OutOfMemory}
-use Rattle.trace_text.specs.Texts.{kind_text}
 use Rattle.trace_text.specs.Versions.{message_fits}
 use Rattle.trace_text.specs.Lines.{Line, HeadLine, EventLine, NoteLine, MessageLine, OrderLine, EndLine, line_text, Standing, MayStand, after, item_of}
 use Rattle.tcs_terms.specs.Texts.{rule_in}
@@ -122,7 +121,7 @@ frame_in version text = do
   words ← first_word text
   frame ← bytes_in words.1
   message ← result_ok (read_frame frame)
-  if is_word (kind_text (kind_of message)) words.0 && message_fits version message then Some frame else None
+  if is_word (kind_word (kind_of message)) words.0 && message_fits version message then Some frame else None
 
 -- ---- lines, each behind its first word
 

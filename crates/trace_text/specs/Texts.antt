@@ -1,5 +1,5 @@
 -- The texts of the parts of a trace: numbers in decimal, one space between words, no line feed.
-use Rattle.std.specs.Prelude.{ℕ, ◌==◌, if◌then◌else◌, List, [], ◌∷◌, ◌++◌, codes, decimal}
+use Rattle.std.specs.Prelude.{ℕ, List, [], ◌∷◌, ◌++◌, codes, decimal, Option, Some, None}
 use Rattle.std.specs.List.{flat_map}
 use Rattle.tcs_terms.specs.declared.ids.TxId.{TxId}
 use Rattle.tcs_terms.specs.declared.votes.Cause.{Cause}
@@ -12,6 +12,8 @@ use Rattle.tcs_terms.specs.declared.inputs.Result1.{Result1}
 use Rattle.tcs_terms.specs.declared.inputs.Result1.TheVariants as results
 use Rattle.tcs_terms.specs.declared.inputs.Note.{Note}
 use Rattle.tcs_terms.specs.declared.inputs.Note.TheVariants as notes
+use Rattle.tcs_terms.specs.declared.kinds.Kind.{Kind}
+use Rattle.tcs_terms.specs.Kinds.{kind_numbered, kind_word}
 use Rattle.tcs_terms.specs.PayloadText.{payload_text, value_text}
 use Rattle.tcs_terms.specs.Texts.{txn_text}
 
@@ -40,15 +42,13 @@ note_text (notes.Take txn) = codes "take " ++ txn_text txn
 note_text (notes.ReadValue name version value) = codes "read " ++ name ++ codes " " ++ decimal version ++ codes " " ++ value_text value
 note_text (notes.Decide txn decision) = codes "decide " ++ txn_text txn ++ codes " " ++ decision_text decision
 
--- the names of the kinds of messages, numbered from 1 to 17 by the first byte of a frame
+-- the name of a kind of messages, by the first byte of its frames
+abbrev pub name_of : Option Kind → List ℕ
+name_of None = []
+name_of (Some kind) = kind_word kind
+
 abbrev pub kind_text : ℕ → List ℕ
-kind_text kind =
-    if kind == 1 then codes "PREPARE" else if kind == 2 then codes "PREPARE_ACK" else if kind == 3 then codes "ACCEPT"
-    else if kind == 4 then codes "ACCEPT_ACK" else if kind == 5 then codes "DECISION" else if kind == 6 then codes "PROBE"
-    else if kind == 7 then codes "PROBE_ACK" else if kind == 8 then codes "NEW_CONFIG" else if kind == 9 then codes "NEW_STATE"
-    else if kind == 10 then codes "CONFIG_CHANGE" else if kind == 11 then codes "LAST" else if kind == 12 then codes "AT"
-    else if kind == 13 then codes "CAS" else if kind == 14 then codes "STORED" else if kind == 15 then codes "OUTCOME"
-    else if kind == 16 then codes "REFUSED" else codes "STATE_PIECE"
+kind_text number = name_of (kind_numbered number)
 
 -- transactions with one space between them, or a dash where there are none
 abbrev pub order_text : List TxId → List ℕ

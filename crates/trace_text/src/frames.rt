@@ -2,19 +2,17 @@
 ghost use Rattle.std.specs.Prelude.{◌≡◌, ◌&&◌, IfOk};
 ghost use Rattle.std.specs.Option.{option_map};
 ghost use Rattle.std.specs.Result.{result_ok};
+ghost use Rattle.tcs_terms.specs.Kinds.{kind_of, kind_word};
 ghost use Rattle.wire_frame.specs.Frames.{read_frame};
-ghost use Rattle.wire_frame.specs.Spelling.{kind_of};
-ghost use Rattle.trace_text.specs.Texts.{kind_text};
 ghost use Rattle.trace_text.specs.Versions.{message_fits};
 ghost use Rattle.trace_text.specs.Words.{is_word};
 ghost use Rattle.trace_text.specs.Readings.{frame_in};
 
-use crate::names::kind_name;
 use crate::versions::message_fits;
 use crate::words::{bytes_in, cut};
 use std::alloc::Global;
 use tcs_terms::{Message, OutOfMemory};
-use wire_frame::{DecodeFault, decode, kind};
+use wire_frame::{DecodeFault, decode};
 
 /// The message of a frame.
 fn message_in(alloc: Global, frame: &[u8]) -> Result<Option<Message>, OutOfMemory>
@@ -29,9 +27,9 @@ fn message_in(alloc: Global, frame: &[u8]) -> Result<Option<Message>, OutOfMemor
 
 /// Whether a message may stand behind the name of this kind, in a trace of this version.
 fn may_stand(version: u8, word: &[u8], message: &Message) -> bool
-    ensures { result ≡ (is_word (kind_text (kind_of message.now)) word.now && message_fits version message.now) }
+    ensures { result ≡ (is_word (kind_word (kind_of message.now)) word.now && message_fits version message.now) }
 {
-    word == kind_name(kind(message)) && message_fits(version, message)
+    word == message.kind().word().as_bytes() && message_fits(version, message)
 }
 
 /// The frame that follows the name of its kind, in a trace of this version.

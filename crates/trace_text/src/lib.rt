@@ -5,7 +5,6 @@ mod decisions;
 mod frames;
 mod items;
 mod laws;
-mod names;
 mod notes;
 mod printers;
 mod printing;

@@ -7,11 +7,10 @@ ghost use Rattle.tcs_terms.specs.Appends.{Begins};
 ghost use Rattle.trace_text.specs.Texts.{result_text, note_text, kind_text};
 ghost use Rattle.trace_text.specs.Lines.{HeadLine, EventLine, NoteLine, MessageLine, OrderLine, EndLine, printed};
 
-use crate::names::kind_name;
 use crate::printing::{
     put, put_decision, put_field, put_handled, put_hex, put_number, put_order, put_value,
 };
-use tcs_terms::{NodeId, Note, OutOfMemory, Result1, Setup, TxId, print_payload, print_txn};
+use tcs_terms::{Kind, NodeId, Note, OutOfMemory, Result1, Setup, TxId, print_payload, print_txn};
 
 /// The first line: the version, the rule and the number of shards.
 pub fn print_head(setup: &Setup, out: &mut Vec<u8>) -> Result<(), OutOfMemory>
@@ -89,7 +88,10 @@ pub fn print_kind(kind: u8, out: &mut Vec<u8>) -> Result<(), OutOfMemory>
     ensures ok { OnOk result (out.new.items ≡ out.old.items ++ kind_text kind) }
     ensures err { OnErr result (Begins out.old.items out.new.items) }
 {
-    put(out, kind_name(kind))
+    match Kind::numbered(kind) {
+        Some(kind) => put(out, kind.word().as_bytes()),
+        None => Ok(()),
+    }
 }
 
 /// The line of an event.
