@@ -43,7 +43,7 @@ fn hear(
             txn,
         } => coordinator.on_accept_ack(from, shard, epoch, slot, txn, out, notes)?,
         Message::ConfigChange { config } => coordinator.on_config(config, out)?,
-        _ => Handled::Held(0),
+        _other => Handled::Held(0),
     };
     Ok(handled)
 }

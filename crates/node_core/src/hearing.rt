@@ -93,9 +93,8 @@ impl<G: VoteGuard> Parts<G> {
             Message::Stored { config } => self.hear_stored(alloc, config, out),
             Message::OutcomeOf { txn, decision } => self.hear_outcome(txn, decision),
             Message::Refused { .. } => Ok(Handled::Acted),
-            Message::Last { .. } | Message::At { .. } | Message::Cas { .. } => {
-                Ok(Handled::Held(0))
-            }
+            Message::Last { .. } | Message::At { .. } => Ok(Handled::Held(0)),
+            Message::Cas { config: _config } => Ok(Handled::Held(0)),
         }
     }
 
