@@ -12,11 +12,11 @@ serial_lawful = lawful_by_sight seen part_sees (λ p name none. none)
 
 pub serial_checks_reads : ChecksReads serial
 serial_checks_reads = record {
-  above = λ old new ok name written. not_below (seen new name) old.version
+  above = λ old new p q ok name written. not_below (seen new name) old.version
       (none_written (λ x. seen_below (seen new x) old.version) old.writes (not-true _ ok) name written);
 }
 
 pub serial_orders_writes : OrdersWrites serial
 serial_orders_writes = record {
-  above = λ old new ok name by_old by_new. serial_checks_reads.above old new ok name by_old;
+  above = λ old new p q ok name by_old by_new. serial_checks_reads.above old new p q ok name by_old;
 }

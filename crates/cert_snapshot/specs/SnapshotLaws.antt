@@ -42,9 +42,9 @@ apart_not_again old new apart =
 
 pub snapshot_lawful : IsLawful snapshot
 snapshot_lawful = record {
-  by_shards = λ n some few olds new formed. by_shards snapshot hits asks n some olds new formed;
-  prepared_commits = λ old new ok. apart_not_again old new (not-true _ ok);
-  prepared_commits_turned = λ old new ok. apart_not_again new old (apart_turned old new (not-true _ ok));
+  by_shards = λ n some few olds new formed is. by_shards snapshot hits asks n some olds new formed;
+  prepared_commits = λ old new p q ok. apart_not_again old new (not-true _ ok);
+  prepared_commits_turned = λ old new p q ok. apart_not_again new old (apart_turned old new (not-true _ ok));
 }
 
 -- a pair of tests that does not hold fails at the second where the first holds
@@ -54,6 +54,6 @@ second_fails false b none a_holds = cc
 
 pub snapshot_orders_writes : OrdersWrites snapshot
 snapshot_orders_writes = record {
-  above = λ old new ok name by_old by_new. not_below (seen new name) old.version
+  above = λ old new p q ok name by_old by_new. not_below (seen new name) old.version
       (second_fails _ _ (none_written (λ x. hits new old.version x) old.writes (not-true _ ok) name by_old) by_new);
 }

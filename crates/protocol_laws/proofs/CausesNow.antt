@@ -9,7 +9,7 @@ use Rattle.tcs_terms.specs.declared.votes.Cause.{Cause}
 use Rattle.tcs_terms.specs.declared.votes.Cause.TheVariants as causes
 use Rattle.tcs_terms.specs.declared.votes.Decision.TheVariants.{Abort}
 use Rattle.tcs_terms.specs.declared.votes.Vote.TheVariants as votes
-use Rattle.tcs_terms.specs.Payloads.{Accesses}
+use Rattle.tcs_terms.specs.Payloads.{Accesses, IsPayload}
 use Rattle.tcs_terms.specs.Preparations.{Preparation, is_lost}
 use Rattle.tcs_terms.specs.Setups.{Deployment}
 use Rattle.tcs_terms.specs.Shards.{part_in, restricted, shards_of}
@@ -30,7 +30,7 @@ use Rattle.protocol_laws.proofs.AcceptedSays.{before-past}
 use Rattle.protocol_laws.proofs.DecidedEntries.{DecidedEntry, decided-entry}
 use Rattle.protocol_laws.proofs.DecidesNow.{DecidesNow, now-noted, earlier-payload, earlier-take}
 use Rattle.protocol_laws.proofs.OneEntry.{accepted-listed}
-use Rattle.protocol_laws.proofs.PartsOf.{shard-part}
+use Rattle.protocol_laws.proofs.PartsOf.{part-payload, shard-part}
 use Rattle.protocol_laws.proofs.PastKept.{EntrySays, WorldHolds, PastHolds}
 use Rattle.protocol_laws.proofs.Standing.{StandsIn-map}
 use Rattle.protocol_laws.proofs.Verdicts.{clash_cause, lost_cause, IsAbortedBy, abort-part}
@@ -63,11 +63,15 @@ aborting-entry tests setup t txn shard cause whole holds past noted begun =
     go : (p : Part) → DecidedEntry setup.shards t txn p.shard whole p.entry → cause_of p.entry ≡ Some cause → StandsIn p.shard (shards_of setup.shards whole) → AbortingEntry setup.shards t txn p.shard cause whole
     go p x has among = record { entry = x.entry; found = subst (λ o. DecidedEntry setup.shards t txn p.shard whole o) x.is x; has = subst (λ o. cause_of o ≡ Some cause) x.is has; among = among }
 
+-- the payloads of a history are well formed
+abbrev pub HaveFormed : List Note → Type 0
+HaveFormed h = (txn : TxId) (p : Accesses) → payload_in h txn ≡ Some p → IsPayload p
+
 -- a row that clashes with the part of a payload, whose own payload is the part of its transaction's
-names_row : (tests : Tests) (setup : Deployment) (t : Moment) (earlier : List Note) (txn other : TxId) (shard : ℕ) (new : Accesses) (r : Row) → IsLawful tests
+names_row : (tests : Tests) (setup : Deployment) (t : Moment) (earlier : List Note) (txn other : TxId) (shard : ℕ) (new : Accesses) (r : Row) → IsLawful tests → HaveFormed earlier → IsPayload new
     → DecidesNow tests setup t earlier txn (Abort shard (causes.Clash other)) → StandsIn shard (shards_of setup.shards new) → EntrySays setup.shards t shard r.entry
     → clashes tests r (part_in setup.shards shard new) ≡ true → r.entry.txn ≡ other → (other ≡ txn → ⊥) → NamesClash tests setup.shards earlier txn new shard other
-names_row tests setup t earlier txn other shard new r lawful now among says clash is differs = record { differs = differs; old = says.payload; begun = begun; fails = fails r.entry.payload refl clash says.part }
+names_row tests setup t earlier txn other shard new r lawful formed is_new now among says clash is differs = record { differs = differs; old = says.payload; begun = begun; fails = fails r.entry.payload refl clash says.part }
   where
     begun : payload_in earlier other ≡ Some says.payload
     begun = sym (earlier-payload tests setup t earlier txn other (Abort shard (causes.Clash other)) now) ∙ ap (λ m. payload_in t.now.history m) (sym is) ∙ says.begun
@@ -79,11 +83,12 @@ names_row tests setup t earlier txn other shard new r lawful now among says clas
     fails (Some old) e c (inl p) =
         subst (λ o. (parts_ok tests.prepared_ok o (restricted setup.shards shard new) && true) ≡ false) (sym e ∙ p)
         (subst (λ o. (parts_ok tests.prepared_ok (Some old) o && true) ≡ false) (sym (shard-part setup.shards shard new among))
-        (ap (λ b. b && true) (refused-unprepared tests r.mark r.entry.vote old (part_in setup.shards shard new) lawful c)))
+        (ap (λ b. b && true) (refused-unprepared tests r.mark r.entry.vote old (part_in setup.shards shard new) lawful
+        (part-payload setup.shards shard says.payload old (formed other says.payload begun) (sym p ∙ e)) (part-payload setup.shards shard new (part_in setup.shards shard new) is_new (shard-part setup.shards shard new among)) c)))
 
-pub clash_now : (tests : Tests) (setup : Deployment) (t : Moment) (earlier : List Note) (txn other : TxId) (shard : ℕ) (new : Accesses) → IsLawful tests
+pub clash_now : (tests : Tests) (setup : Deployment) (t : Moment) (earlier : List Note) (txn other : TxId) (shard : ℕ) (new : Accesses) → IsLawful tests → HaveFormed earlier
     → DecidesNow tests setup t earlier txn (Abort shard (causes.Clash other)) → payload_in t.now.history txn ≡ Some new → NamesClash tests setup.shards earlier txn new shard other
-clash_now tests setup t earlier txn other shard new lawful now begun =
+clash_now tests setup t earlier txn other shard new lawful formed now begun =
     let a : AbortingEntry setup.shards t txn shard (causes.Clash other) new = aborting-entry tests setup t txn shard (causes.Clash other) new now.holds now.past (now-noted tests setup t earlier txn (Abort shard (causes.Clash other)) now) begun in
     let same : a.entry ≡ a.found.entry = cc a.found.is in
     go a (ap (λ x. x.vote) (sym same) ∙ clash_cause a.entry.vote other a.has)
@@ -96,7 +101,7 @@ clash_now tests setup t earlier txn other shard new lawful now begun =
         let r : ClashesWith tests p.node.rows (part_in setup.shards shard new) other = clash-row tests p.node.rows (part_in setup.shards shard new) other voted in
         let w : WorldHolds setup t p.before = now.past.each p.before (inr (before-past t.now p.after p.before t.before p.later p.earlier p.moments)) in
         let says : EntrySays setup.shards t shard r.row.entry = subst (λ m. EntrySays setup.shards t m r.row.entry) (p.shard ∙ a.found.accepted.of_shard) (w.rows p.node r.row p.there r.there) in
-        names_row tests setup t earlier txn other shard new r.row lawful now a.among says r.clashes r.of_txn (λ e. (p.new r.row r.there).1 (r.of_txn ∙ e ∙ sym a.found.accepted.of_txn))
+        names_row tests setup t earlier txn other shard new r.row lawful formed (formed txn new (sym (earlier-payload tests setup t earlier txn txn (Abort shard (causes.Clash other)) now) ∙ begun)) now a.among says r.clashes r.of_txn (λ e. (p.new r.row r.there).1 (r.of_txn ∙ e ∙ sym a.found.accepted.of_txn))
       where
         has : (a.found.entry.payload ≡ restricted setup.shards shard new) ⊎ ((a.found.entry.payload ≡ None) × StandsIn (Take txn) t.now.history) → a.found.entry.payload ≡ Some (part_in setup.shards shard new)
         has (inl e) = e ∙ shard-part setup.shards shard new a.among

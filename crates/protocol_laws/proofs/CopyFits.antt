@@ -20,7 +20,7 @@ use Rattle.protocol.specs.History.{payload_in, payloads_of}
 use Rattle.protocol.specs.Invariant.Time.{StandsIn}
 use Rattle.protocol.specs.OneCopy.{Copied, before_begin, copy_after, fits_copy, honest_after, overwritten, range_fits, read_fits, tells_value, tells_version}
 use Rattle.protocol_laws.proofs.CopyTells.{Place, copy-told, reading-Told}
-use Rattle.protocol_laws.proofs.LegalOrder.{legal-each}
+use Rattle.protocol_laws.proofs.LegalOrder.{IsPayloadOf, payload-of, legal-each}
 use Rattle.protocol_laws.proofs.NamesOnce.{same_name-eq, same_name-self}
 use Rattle.protocol_laws.proofs.RangesOnce.{find-range}
 use Rattle.protocol_laws.proofs.Standing.{all-from, any-from, Passing, any-Passing}
@@ -98,8 +98,10 @@ range-fits tests h past t p q l s =
   where
     bound : (name : List ℕ) → in_range_part name q ≡ true → reads_name p.reads name ≡ false → (x : Accesses) → StandsIn x (payloads_of h past) → writes_name x.writes name ≡ true → x.version ≤ q.version
     bound name a b x there w =
-        subst (λ o. IfSome o (λ v. x.version ≤ v)) (range-seen p q name (l.legal.payloads t p l.payload) s a b)
-        (l.checks.above x p (legal-each tests h past t l.after x p l.legal.legal l.order l.payload there) name w)
+        let of : IsPayloadOf h past x = payload-of h past x there in
+        let is : IsPayload p = l.legal.payloads t p l.payload in
+        subst (λ o. IfSome o (λ v. x.version ≤ v)) (range-seen p q name is s a b)
+        (l.checks.above x p (l.legal.payloads of.txn x of.payload) is (legal-each tests h past t l.after x p l.legal.legal l.order l.payload there) name w)
 
     go : (name : List ℕ) (a b : Bool) → in_range_part name q ≡ a → reads_name p.reads name ≡ b → (not a || b || nat_le (copy_after (payloads_of h past) name).version q.version) ≡ true
     go name false b e f = refl

@@ -12,8 +12,8 @@ use Rattle.protocol.specs.OneCopy.{is_honest, is_one_copy}
 use Rattle.protocol.specs.Run.{run}
 use Rattle.protocol.specs.World.{first_world}
 use Rattle.protocol_laws.specs.Rising.{VersionsRise}
+use Rattle.protocol_laws.proofs.CausesNow.{HaveFormed}
 use Rattle.protocol_laws.proofs.BegunFirst.{BegunFirst, begun_first}
-use Rattle.protocol_laws.proofs.CorrectOrder.{HaveFormed}
 use Rattle.protocol_laws.proofs.HistoryAt.{formed_at, remembers_at}
 use Rattle.protocol_laws.proofs.CopyTells.{TellsWritten}
 use Rattle.protocol_laws.proofs.HistoryLaws.{of_run, run_is_legal}

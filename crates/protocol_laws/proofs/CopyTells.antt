@@ -69,7 +69,8 @@ reading-Told tests h past t p name version value l s =
 older-bound : (tests : Tests) (h : List Note) (past : List TxId) (t : TxId) (p : Accesses) (r : ReadPart) (x : Accesses) → Place tests h past t p → StandsIn r p.reads → StandsIn x (payloads_of h past)
     → writes_name x.writes r.name ≡ true → x.version ≤ r.version
 older-bound tests h past t p r x l s o w =
-    reads-bound tests x p r l.checks (l.legal.payloads t p l.payload) (legal-each tests h past t l.after x p l.legal.legal l.order l.payload o) w s
+    let of : IsPayloadOf h past x = payload-of h past x o in
+    reads-bound tests x p r l.checks (l.legal.payloads of.txn x of.payload) (l.legal.payloads t p l.payload) (legal-each tests h past t l.after x p l.legal.legal l.order l.payload o) w s
 
 -- what a reading told at the version that the transaction read is what the copy has
 pub copy-told : (tests : Tests) (h : List Note) (past : List TxId) (t : TxId) (p : Accesses) (r : ReadPart) (value : List ℕ) → Place tests h past t p → StandsIn r p.reads → Told h past r.name r.version value

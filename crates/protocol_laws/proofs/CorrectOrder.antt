@@ -4,13 +4,14 @@ use Rattle.tcs_terms.specs.declared.ids.TxId.{TxId}
 use Rattle.tcs_terms.specs.declared.inputs.Note.{Note}
 use Rattle.tcs_terms.specs.declared.inputs.Note.TheVariants.{Decide}
 use Rattle.tcs_terms.specs.declared.votes.Decision.TheVariants.{Commit}
-use Rattle.tcs_terms.specs.Payloads.{Accesses, IsPayload}
+use Rattle.tcs_terms.specs.Payloads.{Accesses}
 use Rattle.tcs_laws.specs.Certification.{Tests}
 use Rattle.tcs_laws.specs.Laws.{IsLawful}
 use Rattle.protocol.specs.CorrectHistory.{passes_after, is_legal}
 use Rattle.protocol.specs.History.{payload_in, order_of, payloads_of}
 use Rattle.protocol.specs.Invariant.Time.{StandsIn}
 use Rattle.protocol_laws.proofs.Fronts.{payload_in-kept}
+use Rattle.protocol_laws.proofs.CausesNow.{HaveFormed}
 use Rattle.protocol_laws.proofs.HistoryKept.{DecisionStands, HistoryHolds}
 use Rattle.protocol_laws.proofs.Orders.{IsOrdered, is_ordered}
 use Rattle.protocol_laws.proofs.Standing.{all-from, StandsIn-right}
@@ -31,9 +32,9 @@ committed-began tests n h earlier later txn holds e s = began (payload_in earlie
     began None q k = absurd (cc k)
     began (Some p) q k = record { payload = p; begun = q }
 
--- the payloads of a history are well formed
-abbrev pub HaveFormed : List Note → Type 0
-HaveFormed h = (txn : TxId) (p : Accesses) → payload_in h txn ≡ Some p → IsPayload p
+-- so are those of a front of it
+pub formed-front : (h earlier later : List Note) → h ≡ earlier ++ later → HaveFormed h → HaveFormed earlier
+formed-front h earlier later e formed txn p b = formed txn p (ap (λ xs. payload_in xs txn) e ∙ payload_in-kept earlier later txn p b)
 
 -- one committed transaction passes against those before it
 legal_at : (tests : Tests) (n : ℕ) (h : List Note) (before : List TxId) (txn : TxId) → IsLawful tests → HaveFormed h → HistoryHolds tests n h → IsOrdered h before txn → passes_after tests (payloads_of h before) (payload_in h txn) ≡ true
@@ -50,7 +51,7 @@ legal_at tests n h before txn lawful formed holds o =
         let committed : StandsIn (Decide p.txn Commit) o.earlier = o.committed p.txn (subst (λ ts. StandsIn p.txn ts) (sym p.split) (StandsIn-right p.before (p.txn ∷ p.after) p.txn (inl refl))) in
         let b : BeganIn o.earlier p.txn = committed-began tests n h o.earlier (Decide txn Commit ∷ o.later) p.txn holds o.is committed in
         let same : b.payload ≡ old = cc (whole b.payload p.txn b.begun, p.payload) in
-        d.legal lawful refl o.first p.txn old (formed p.txn old p.payload) committed (b.begun ∙ ap (λ z. Some z) same)
+        d.legal lawful (formed-front h o.earlier (Decide txn Commit ∷ o.later) o.is formed) refl o.first p.txn old committed (b.begun ∙ ap (λ z. Some z) same)
 
 pub history-legal : (tests : Tests) (n : ℕ) (h : List Note) → IsLawful tests → HaveFormed h → HistoryHolds tests n h → is_legal tests h ≡ true
 history-legal tests n h lawful formed holds =

@@ -79,7 +79,7 @@ exchange_after tests past (f ∷ fs) a b back ok h =
 
 pub exchange-prepared : (tests : Tests) (front : List Accesses) (a b : Accesses) (back : List Accesses) → IsLawful tests → IsPayload a → IsPayload b → tests.prepared_ok b a ≡ true
     → may_commit tests (front ++ (a ∷ b ∷ back)) ≡ true → may_commit tests (front ++ (b ∷ a ∷ back)) ≡ true
-exchange-prepared tests front a b back lawful p q ok h = exchange_after tests [] front a b back (lawful.prepared_commits b a ok) h
+exchange-prepared tests front a b back lawful p q ok h = exchange_after tests [] front a b back (lawful.prepared_commits b a q p ok) h
 
 pub exchange-unread : (front : List Accesses) (a b : Accesses) (back : List Accesses) → writes_truly_seen b a ≡ false
     → may_commit commute (front ++ (a ∷ b ∷ back)) ≡ true → may_commit commute (front ++ (b ∷ a ∷ back)) ≡ true

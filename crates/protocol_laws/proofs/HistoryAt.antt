@@ -11,7 +11,7 @@ use Rattle.tcs_laws.specs.Certification.{Tests}
 use Rattle.protocol.specs.Invariant.{InvariantHolds}
 use Rattle.protocol.specs.Invariant.Time.{Moment, goes_to, time_after}
 use Rattle.protocol.specs.World.{first_world}
-use Rattle.protocol_laws.proofs.CorrectOrder.{HaveFormed}
+use Rattle.protocol_laws.proofs.CausesNow.{HaveFormed}
 use Rattle.protocol_laws.proofs.HistoryKept.{ArePayloads, HistoryHolds, history_kept, payload-begun}
 use Rattle.protocol_laws.proofs.OnwardOf.{onward_of}
 use Rattle.protocol_laws.proofs.PastKept.{PastHolds, past_kept, past_starts}

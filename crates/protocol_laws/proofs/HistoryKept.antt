@@ -19,7 +19,7 @@ use Rattle.protocol.specs.Invariant.Time.{Moment, goes_to, StandsIn}
 use Rattle.protocol.specs.World.{Happening}
 use Rattle.protocol_laws.specs.Turn.{Turn}
 use Rattle.protocol_laws.proofs.Agreement.{agreement}
-use Rattle.protocol_laws.proofs.CausesNow.{NamesClash, clash_now, lost_now}
+use Rattle.protocol_laws.proofs.CausesNow.{HaveFormed, NamesClash, clash_now, lost_now}
 use Rattle.protocol_laws.proofs.DecidesNow.{DecidesNow, now-noted, earlier-noted, earlier-payload}
 use Rattle.protocol_laws.proofs.Fronts.{Splits, InFirst, InSecond, splits}
 use Rattle.protocol_laws.proofs.LegalNow.{legal_now}
@@ -37,8 +37,8 @@ pub record DecisionStands (tests : Tests) (n : ℕ) (earlier : List Note) (txn :
   pub payload : Accesses
   pub begun : payload_in earlier txn ≡ Some payload
   pub agrees : (other : Decision) → StandsIn (Decide txn other) earlier → other ≡ decision
-  pub legal : IsLawful tests → decision ≡ Commit → (StandsIn (Decide txn Commit) earlier → ⊥) → (other : TxId) (old : Accesses) → IsPayload old → StandsIn (Decide other Commit) earlier → payload_in earlier other ≡ Some old → tests.committed_ok old payload ≡ true
-  pub clash : IsLawful tests → (shard : ℕ) (other : TxId) → decision ≡ Abort shard (Clash other) → NamesClash tests n earlier txn payload shard other
+  pub legal : IsLawful tests → HaveFormed earlier → decision ≡ Commit → (StandsIn (Decide txn Commit) earlier → ⊥) → (other : TxId) (old : Accesses) → StandsIn (Decide other Commit) earlier → payload_in earlier other ≡ Some old → tests.committed_ok old payload ≡ true
+  pub clash : IsLawful tests → HaveFormed earlier → (shard : ℕ) (other : TxId) → decision ≡ Abort shard (Clash other) → NamesClash tests n earlier txn payload shard other
   pub lost : (shard : ℕ) → decision ≡ Abort shard Lost → StandsIn (Take txn) earlier
 
 -- such facts stand behind every decision
@@ -69,16 +69,17 @@ stands_now tests setup t earlier txn decision deployment now =
       payload = d.payload;
       begun = sym (earlier-payload tests setup t earlier txn txn decision now) ∙ d.begun.first;
       agrees = λ other s. agreement tests setup t txn other decision now.holds (earlier-noted tests setup t earlier txn decision (Decide txn other) now s) (now-noted tests setup t earlier txn decision now);
-      legal = λ lawful e first other old formed s b. legal d lawful first other old formed s b (subst (λ x. DecidesNow tests setup t earlier txn x) e now);
-      clash = λ lawful shard other e. clash_now tests setup t earlier txn other shard d.payload lawful (subst (λ x. DecidesNow tests setup t earlier txn x) e now) d.begun.first;
+      legal = λ lawful formed e first other old s b. legal d lawful formed first other old s b (subst (λ x. DecidesNow tests setup t earlier txn x) e now);
+      clash = λ lawful formed shard other e. clash_now tests setup t earlier txn other shard d.payload lawful formed (subst (λ x. DecidesNow tests setup t earlier txn x) e now) d.begun.first;
       lost = λ shard e. lost_now tests setup t earlier txn shard d.payload (subst (λ x. DecidesNow tests setup t earlier txn x) e now) d.begun.first;
     }
   where
-    legal : (d : IsDecidedBy setup.shards t txn decision) → IsLawful tests → (StandsIn (Decide txn Commit) earlier → ⊥) → (other : TxId) (old : Accesses) → IsPayload old → StandsIn (Decide other Commit) earlier → payload_in earlier other ≡ Some old
+    legal : (d : IsDecidedBy setup.shards t txn decision) → IsLawful tests → HaveFormed earlier → (StandsIn (Decide txn Commit) earlier → ⊥) → (other : TxId) (old : Accesses) → StandsIn (Decide other Commit) earlier → payload_in earlier other ≡ Some old
         → DecidesNow tests setup t earlier txn Commit → tests.committed_ok old d.payload ≡ true
-    legal d lawful first other old formed s b n =
+    legal d lawful formed first other old s b n =
+        let begun : payload_in earlier txn ≡ Some d.payload = sym (earlier-payload tests setup t earlier txn txn Commit n) ∙ d.begun.first in
         let old_begun : payload_in t.now.history other ≡ Some old = earlier-payload tests setup t earlier txn other Commit n ∙ b in
-        legal_now tests setup t earlier txn other old d.payload deployment lawful n first s old_begun d.begun.first formed
+        legal_now tests setup t earlier txn other old d.payload deployment lawful n first s old_begun d.begun.first (formed other old b) (formed txn d.payload begun)
 
 pub history_kept : (tests : Tests) (setup : Deployment) (t : Moment) (event : Event) (h : Happening) → Turn tests setup t event h → InvariantHolds tests setup (goes_to t h.after)
     → PastHolds setup t → PastHolds setup (goes_to t h.after) → HistoryHolds tests setup.shards t.now.history → HistoryHolds tests setup.shards h.after.history

@@ -37,7 +37,7 @@ run_keeps_time tests setup events a =
 
 pub run_names_clashes : (tests : Tests) (setup : Deployment) (events : List Event) → IsLawful tests → AreEventsOf setup events → names_clashes tests setup.shards (run tests setup events).history ≡ true
 run_names_clashes tests setup events lawful a =
-    of_run tests setup events (λ h. names_clashes tests setup.shards h ≡ true) (history-clashes tests setup.shards (time_after tests setup events).now.history lawful (remembers_at tests setup events a).history)
+    of_run tests setup events (λ h. names_clashes tests setup.shards h ≡ true) (history-clashes tests setup.shards (time_after tests setup events).now.history lawful (formed_at tests setup events a) (remembers_at tests setup events a).history)
 
 pub run_names_losses : (tests : Tests) (setup : Deployment) (events : List Event) → AreEventsOf setup events → names_losses (run tests setup events).history ≡ true
 run_names_losses tests setup events a =

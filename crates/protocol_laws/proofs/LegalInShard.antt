@@ -8,7 +8,7 @@ use Rattle.tcs_terms.specs.declared.logs.Mark.TheVariants.{Undecided, Committed,
 use Rattle.tcs_terms.specs.declared.votes.Decision.{Decision}
 use Rattle.tcs_terms.specs.declared.votes.Decision.TheVariants.{Commit, Abort}
 use Rattle.tcs_terms.specs.declared.votes.Vote.TheVariants as votes
-use Rattle.tcs_terms.specs.Payloads.{Accesses}
+use Rattle.tcs_terms.specs.Payloads.{Accesses, IsPayload}
 use Rattle.tcs_terms.specs.Places.{Membership}
 use Rattle.tcs_terms.specs.Preparations.{Preparation}
 use Rattle.tcs_terms.specs.Setups.{Deployment}
@@ -59,48 +59,48 @@ pub record IsVotedToCommit (t : Moment) (txn : TxId) (shard : ℕ) (entry : Prep
   pub has : entry.payload ≡ Some payload
 
 -- the earlier one stood below: it had passed, since its abort was not decided
-below_passes : (tests : Tests) (setup : Deployment) (t : Moment) (earlier : List Note) (txn other : TxId) (decision : Decision) (x : Preparation) (old new : Accesses) → IsLawful tests
+below_passes : (tests : Tests) (setup : Deployment) (t : Moment) (earlier : List Note) (txn other : TxId) (decision : Decision) (x : Preparation) (old new : Accesses) → IsLawful tests → IsPayload old → IsPayload new
     → DecidesNow tests setup t earlier txn decision → StandsIn (Decide other Commit) earlier → x.txn ≡ other → x.vote ≡ votes.Commit → x.payload ≡ Some old → StoodBelow tests earlier x new
     → tests.committed_ok old new ≡ true
-below_passes tests setup t earlier txn other decision x old new lawful d committed is vote has s =
+below_passes tests setup t earlier txn other decision x old new lawful p q d committed is vote has s =
     go s.mark s.stands (subst (λ v. refuses_by tests s.mark v (Some old) new ≡ false) vote (subst (λ p. refuses_by tests s.mark x.vote p new ≡ false) has s.passes))
   where
     go : (mark : Mark) → MarkStands earlier x.txn mark → refuses tests mark votes.Commit old new ≡ false → tests.committed_ok old new ≡ true
-    go Undecided m p = lawful.prepared_commits old new (not_true (tests.prepared_ok old new) p)
-    go Committed m p = not_true (tests.committed_ok old new) p
-    go Aborted m p =
+    go Undecided m k = lawful.prepared_commits old new p q (not_true (tests.prepared_ok old new) k)
+    go Committed m k = not_true (tests.committed_ok old new) k
+    go Aborted m k =
         let aborted : WasNoted t (Decide other (Abort m.0 m.1)) = earlier-noted tests setup t earlier txn decision (Decide other (Abort m.0 m.1)) d (subst (λ y. StandsIn (Decide y (Abort m.0 m.1)) earlier) is m.2) in
         let same : Commit ≡ Abort m.0 m.1 = agreement tests setup t other Commit (Abort m.0 m.1) d.holds (earlier-noted tests setup t earlier txn decision (Decide other Commit) d committed) aborted in
         absurd (cc same)
 
 -- the one that is decided now stood below: it was undecided then, and passed the prepared test, which turns round
-above_passes : (tests : Tests) (setup : Deployment) (t : Moment) (earlier : List Note) (txn : TxId) (x : Preparation) (old new : Accesses) → IsLawful tests
+above_passes : (tests : Tests) (setup : Deployment) (t : Moment) (earlier : List Note) (txn : TxId) (x : Preparation) (old new : Accesses) → IsLawful tests → IsPayload old → IsPayload new
     → DecidesNow tests setup t earlier txn Commit → (StandsIn (Decide txn Commit) earlier → ⊥) → x.txn ≡ txn → x.vote ≡ votes.Commit → x.payload ≡ Some new → StoodBelow tests earlier x old
     → tests.committed_ok old new ≡ true
-above_passes tests setup t earlier txn x old new lawful d first is vote has s =
+above_passes tests setup t earlier txn x old new lawful p q d first is vote has s =
     go s.mark s.stands (subst (λ v. refuses_by tests s.mark v (Some new) old ≡ false) vote (subst (λ p. refuses_by tests s.mark x.vote p old ≡ false) has s.passes))
   where
     go : (mark : Mark) → MarkStands earlier x.txn mark → refuses tests mark votes.Commit new old ≡ false → tests.committed_ok old new ≡ true
-    go Undecided m p = lawful.prepared_commits_turned new old (not_true (tests.prepared_ok new old) p)
-    go Committed m p = absurd (first (subst (λ y. StandsIn (Decide y Commit) earlier) is m))
-    go Aborted m p =
+    go Undecided m k = lawful.prepared_commits_turned new old q p (not_true (tests.prepared_ok new old) k)
+    go Committed m k = absurd (first (subst (λ y. StandsIn (Decide y Commit) earlier) is m))
+    go Aborted m k =
         let aborted : WasNoted t (Decide txn (Abort m.0 m.1)) = earlier-noted tests setup t earlier txn Commit (Decide txn (Abort m.0 m.1)) d (subst (λ y. StandsIn (Decide y (Abort m.0 m.1)) earlier) is m.2) in
         let same : Commit ≡ Abort m.0 m.1 = agreement tests setup t txn Commit (Abort m.0 m.1) d.holds (now-noted tests setup t earlier txn Commit d) aborted in
         absurd (cc same)
 
-pub legal_in_shard : (tests : Tests) (setup : Deployment) (t : Moment) (earlier : List Note) (txn other : TxId) (shard : ℕ) (x y : Preparation) (old new : Accesses) → IsLawful tests
+pub legal_in_shard : (tests : Tests) (setup : Deployment) (t : Moment) (earlier : List Note) (txn other : TxId) (shard : ℕ) (x y : Preparation) (old new : Accesses) → IsLawful tests → IsPayload old → IsPayload new
     → DecidesNow tests setup t earlier txn Commit → (StandsIn (Decide txn Commit) earlier → ⊥) → StandsIn (Decide other Commit) earlier → IsVotedToCommit t other shard x old → IsVotedToCommit t txn shard y new
     → tests.committed_ok old new ≡ true
-legal_in_shard tests setup t earlier txn other shard x y old new lawful d first committed a b =
+legal_in_shard tests setup t earlier txn other shard x y old new lawful is_old is_new d first committed a b =
     go (common_list tests setup t a.accepted.config b.accepted.config x y d.holds a.accepted.accepted b.accepted.accepted (a.accepted.of_shard ∙ sym b.accepted.of_shard))
   where
     go : AreInOneList t a.accepted.config.shard x y → tests.committed_ok old new ≡ true
     go l = cases (nat_lt x.slot y.slot) (nat_lt y.slot x.slot) refl refl
       where
         cases : (p q : Bool) → nat_lt x.slot y.slot ≡ p → nat_lt y.slot x.slot ≡ q → tests.committed_ok old new ≡ true
-        cases true q e f = below_passes tests setup t earlier txn other Commit x old new lawful d committed a.accepted.of_txn a.vote a.has
+        cases true q e f = below_passes tests setup t earlier txn other Commit x old new lawful is_old is_new d committed a.accepted.of_txn a.vote a.has
             (stood_below tests setup t earlier txn Commit l.config x y new d l.first l.second (ltb-true x.slot y.slot e) b.has b.vote)
-        cases false true e f = above_passes tests setup t earlier txn y old new lawful d first b.accepted.of_txn b.vote b.has
+        cases false true e f = above_passes tests setup t earlier txn y old new lawful is_old is_new d first b.accepted.of_txn b.vote b.has
             (stood_below tests setup t earlier txn Commit l.config y x old d l.second l.first (ltb-true y.slot x.slot f) a.has a.vote)
         cases false false e f =
             let slots : x.slot ≡ y.slot = omega (arith, ltb-false x.slot y.slot e, ltb-false y.slot x.slot f) in

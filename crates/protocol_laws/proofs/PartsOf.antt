@@ -1,8 +1,9 @@
 -- The shards of a payload are those in which it has a part.
 use Rattle.std.proofs.Common.{◌≡◌, ℕ, suc, ◌≤◌, Bool, true, false, cond, not, ◌&&◌, ◌||◌, ◌==◌, List, [], ◌∷◌, filter, length, Some, None, subst, refl, arith, ne_eqb}
 use Rattle.std.specs.List.{list_any, range_with_len}
-use Rattle.tcs_terms.specs.Payloads.{Accesses}
+use Rattle.tcs_terms.specs.Payloads.{Accesses, IsPayload}
 use Rattle.tcs_terms.specs.Shards.{lies_in, part_in, restricted, shards_of}
+use Rattle.tcs_terms.proofs.ShardLaws.{part_is_payload}
 use Rattle.protocol.specs.Invariant.Time.{StandsIn}
 use Rattle.protocol_laws.proofs.Standing.{StandsIn-filter, filter-StandsIn, StandsIn-range}
 
@@ -28,6 +29,14 @@ part-shard n shard p q l h e = go (length p.ranges == 0) (list_any (λ r. lies_i
     go false b f g k = all
     go true true f g k = StandsIn-filter (λ s. list_any (λ r. lies_in n s r.name) p.reads) (range_with_len 1 n) shard all g
     go true false f g k = absurd (cc k)
+
+-- the part of a payload is a payload
+pub part-payload : (n shard : ℕ) (p q : Accesses) → IsPayload p → restricted n shard p ≡ Some q → IsPayload q
+part-payload n shard p q is e = go ((length (part_in n shard p).reads == 0) && (length p.ranges == 0)) refl e
+  where
+    go : (b : Bool) → ((length (part_in n shard p).reads == 0) && (length p.ranges == 0)) ≡ b → cond b None (Some (part_in n shard p)) ≡ Some q → IsPayload q
+    go true f k = absurd (cc k)
+    go false f k = let same : part_in n shard p ≡ q = cc k in subst IsPayload same (part_is_payload n shard p is f)
 
 -- in each of its shards it has one
 pub shard-part : (n shard : ℕ) (p : Accesses) → StandsIn shard (shards_of n p) → restricted n shard p ≡ Some (part_in n shard p)

@@ -48,20 +48,20 @@ read-seen : (p : Accesses) (name : List ℕ) (r : ReadPart) → find (λ s. same
 read-seen p name r h = ap (λ o. version_seen o (range_version (find (in_range_part name) p.ranges))) h
 
 -- of two payloads that write one object, the newer of which passes against the older, the newer has the greater version
-pub writers-rise : (tests : Tests) (old new : Accesses) (name : List ℕ) → OrdersWrites tests → IsPayload new → tests.committed_ok old new ≡ true
+pub writers-rise : (tests : Tests) (old new : Accesses) (name : List ℕ) → OrdersWrites tests → IsPayload old → IsPayload new → tests.committed_ok old new ≡ true
     → writes_name old.writes name ≡ true → writes_name new.writes name ≡ true → old.version < new.version
-writers-rise tests old new name o i h a b =
+writers-rise tests old new name o was i h a b =
     let r : IsRead new name = write-IsRead new name i b in
-    let bound : old.version ≤ r.read.version = subst (λ s. IfSome s (λ v. old.version ≤ v)) (read-seen new name r.read r.found) (o.above old new h name a b) in
+    let bound : old.version ≤ r.read.version = subst (λ s. IfSome s (λ v. old.version ≤ v)) (read-seen new name r.read r.found) (o.above old new was i h name a b) in
     let low : r.read.version < new.version = r.below in
     omega (arith, bound, low)
 
 -- what a newer payload reads by name is at or above each older writer
-pub reads-bound : (tests : Tests) (old new : Accesses) (r : ReadPart) → ChecksReads tests → IsPayload new → tests.committed_ok old new ≡ true
+pub reads-bound : (tests : Tests) (old new : Accesses) (r : ReadPart) → ChecksReads tests → IsPayload old → IsPayload new → tests.committed_ok old new ≡ true
     → writes_name old.writes r.name ≡ true → StandsIn r new.reads → old.version ≤ r.version
-reads-bound tests old new r c i h a s =
-    subst (λ v. IfSome v (λ n. old.version ≤ n)) (read-seen new r.name r (read-found new r i s)) (c.above old new h r.name a)
+reads-bound tests old new r c was i h a s =
+    subst (λ v. IfSome v (λ n. old.version ≤ n)) (read-seen new r.name r (read-found new r i s)) (c.above old new was i h r.name a)
 
 -- a certifier that checks reads orders writes
 pub checks-orders : (tests : Tests) → ChecksReads tests → OrdersWrites tests
-checks-orders tests c = record { above = λ old new h name a b. c.above old new h name a }
+checks-orders tests c = record { above = λ old new p q h name a b. c.above old new p q h name a }

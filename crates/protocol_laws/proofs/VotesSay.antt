@@ -6,7 +6,7 @@ use Rattle.tcs_terms.specs.declared.logs.Mark.TheVariants.{Undecided, Committed,
 use Rattle.tcs_terms.specs.declared.logs.Row.{Row}
 use Rattle.tcs_terms.specs.declared.votes.Vote.{Vote}
 use Rattle.tcs_terms.specs.declared.votes.Vote.TheVariants as votes
-use Rattle.tcs_terms.specs.Payloads.{Accesses}
+use Rattle.tcs_terms.specs.Payloads.{Accesses, IsPayload}
 use Rattle.tcs_laws.specs.Certification.{Tests}
 use Rattle.tcs_laws.specs.Laws.{IsLawful}
 use Rattle.tcs_laws.specs.Votes.{refuses, clashes, vote_by, vote_on}
@@ -41,17 +41,17 @@ clash-row tests rows new txn h = go (find (λ row. clashes tests row new) rows) 
     go (Some q) e v = let f : StandsIn q rows × (clashes tests q new ≡ true) = find-StandsIn (λ row. clashes tests row new) rows q e in record { row = q; there = f.0; clashes = f.1; of_txn = cc v }
 
 -- an older payload that refuses a newer one fails the prepared test against it, whatever the mark
-pub refused-unprepared : (tests : Tests) (mark : Mark) (vote : Vote) (old new : Accesses) → IsLawful tests → refuses tests mark vote old new ≡ true → tests.prepared_ok old new ≡ false
-refused-unprepared tests Committed v old new l h = go (tests.prepared_ok old new) refl
+pub refused-unprepared : (tests : Tests) (mark : Mark) (vote : Vote) (old new : Accesses) → IsLawful tests → IsPayload old → IsPayload new → refuses tests mark vote old new ≡ true → tests.prepared_ok old new ≡ false
+refused-unprepared tests Committed v old new l p q h = go (tests.prepared_ok old new) refl
   where
     go : (b : Bool) → tests.prepared_ok old new ≡ b → b ≡ false
     go false e = refl
-    go true e = absurd (let k : tests.committed_ok old new ≡ true = l.prepared_commits old new e in cc (h, ap not k))
-refused-unprepared tests Undecided votes.Commit old new l h = go (tests.prepared_ok old new) h
+    go true e = absurd (let k : tests.committed_ok old new ≡ true = l.prepared_commits old new p q e in cc (h, ap not k))
+refused-unprepared tests Undecided votes.Commit old new l p q h = go (tests.prepared_ok old new) h
   where
     go : (b : Bool) → not b ≡ true → b ≡ false
     go false e = refl
     go true e = absurd (cc e)
-refused-unprepared tests Undecided (votes.Clash txn) old new l h = absurd (cc h)
-refused-unprepared tests Undecided votes.Lost old new l h = absurd (cc h)
-refused-unprepared tests Aborted v old new l h = absurd (cc h)
+refused-unprepared tests Undecided (votes.Clash txn) old new l p q h = absurd (cc h)
+refused-unprepared tests Undecided votes.Lost old new l p q h = absurd (cc h)
+refused-unprepared tests Aborted v old new l p q h = absurd (cc h)

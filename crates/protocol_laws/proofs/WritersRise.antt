@@ -29,4 +29,4 @@ rise-in-order tests h front a rest old new name o l e p s x y =
     let there : StandsIn old (payloads_of h (front ++ (a ∷ of.before))) =
     subst (λ ps. StandsIn old ps) (sym (payloads-append h front (a ∷ of.before)))
     (StandsIn-right (payloads_of h front) (payloads_of h (a ∷ of.before)) old (subst (λ ps. StandsIn old ps) (sym (payloads-first h a of.before old p)) (inl refl))) in
-    writers-rise tests old new name o (l.payloads of.txn new of.payload) (legal-each tests h (front ++ (a ∷ of.before)) of.txn of.after old new l.legal place of.payload there) x y
+    writers-rise tests old new name o (l.payloads a old p) (l.payloads of.txn new of.payload) (legal-each tests h (front ++ (a ∷ of.before)) of.txn of.after old new l.legal place of.payload there) x y

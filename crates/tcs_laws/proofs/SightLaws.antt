@@ -52,12 +52,12 @@ pub lawful_by_sight : (sight : Sight)
     → ((p : Accesses) (name : List ℕ) → seen p name ≡ None → sight p name ≡ None)
     → IsLawful (by_sight sight)
 lawful_by_sight sight in_part unseen = record {
-  by_shards = λ n some few olds new formed. by_shards (by_sight sight) (λ new version name. seen_below (sight new name) version)
+  by_shards = λ n some few olds new formed is. by_shards (by_sight sight) (λ new version name. seen_below (sight new name) version)
       (record {
         test = λ old new. refl;
         in_part = λ n shard new version name there. ap (λ o. seen_below o version) (in_part n shard new name there);
         unseen = λ new version name none. ap (λ o. seen_below o version) (unseen new name none);
       }) n some olds new formed;
-  prepared_commits = λ old new ok. none_below sight old new (or_parts _ _ (not-true _ ok)).0;
-  prepared_commits_turned = λ old new ok. none_below sight new old (or_parts _ _ (not-true _ ok)).1;
+  prepared_commits = λ old new p q ok. none_below sight old new (or_parts _ _ (not-true _ ok)).0;
+  prepared_commits_turned = λ old new p q ok. none_below sight new old (or_parts _ _ (not-true _ ok)).1;
 }
