@@ -115,10 +115,11 @@ impl<G: VoteGuard> Parts<G> {
         ensures sends { OnOk result (out.new.items ≡ out.old.items ++ (receive G.Rule.tests version self.old from message).sends) }
         ensures notes { OnOk result (notes.new.items ≡ notes.old.items ++ (receive G.Rule.tests version self.old from message).notes) }
     {
-        let (kind, told) = (kind(&message), is_answered(&message));
+        let number = kind(&message);
+        let told = is_answered(&message);
         let full_mark = self.replica.promised();
         let handled = self.hear(alloc, version, from, message, out, notes)?;
-        tell_if(told, handled, from, kind, full_mark, out)?;
+        tell_if(told, handled, from, number, full_mark, out)?;
         Ok(handled)
     }
 }

@@ -3,7 +3,6 @@ ghost use Rattle.std.specs.Prelude.{◌≡◌, ◌≤◌, ◌++◌, IsTrue, IfOk
 ghost use Rattle.tcs_terms.specs.Messages.{is_slot};
 ghost use Rattle.tcs_terms.specs.Places.{is_epoch};
 ghost use Rattle.protocol.specs.ShardRules.{on_prepare, on_accept, on_decision, on_probe, on_new_config, on_new_state, on_state_piece};
-
 ghost use Rattle.state_transfer.specs.Arriving.{kept_as};
 
 use crate::parts::Parts;
@@ -126,7 +125,6 @@ impl<G: VoteGuard> Parts<G> {
         ensures kept { OnOk result (self.new
             ≡ (on_state_piece version self.old config piece.pieces (kept_as piece)).kept) }
     {
-        self.replica
-            .state_piece(alloc, version, config, piece)
+        self.replica.state_piece(alloc, version, config, piece)
     }
 }

@@ -1,7 +1,7 @@
 //! The worked runs `read_committed_value` and `repeated_datagram`, one after the other: what is heard and sent are the
 //! frames of their traces. And messages that nobody sent.
-ghost use Rattle.std.specs.Prelude.{◌≡◌, IfOk};
-ghost use Rattle.tcs_terms.specs.Places.{IsMembership};
+ghost use Rattle.std.specs.Prelude.{IsTrue};
+ghost use Rattle.tcs_terms.specs.Places.{is_node};
 
 use super::*;
 use cert_serial::Serial;
@@ -9,7 +9,9 @@ use std::alloc::Global;
 use std::process::Abort;
 use std::test::Fail;
 use tcs_laws::ScanGuard;
-use tcs_terms::{Config, Decision, Handled, Input, Name, NodeId, Note, Outgoing, TxId, read_payload};
+use tcs_terms::{
+    Config, Decision, Handled, Input, Name, NodeId, Note, Outgoing, TxId, read_payload,
+};
 use wire_frame::{decode, encode};
 
 type Scanning = Node<ScanGuard<Serial>>;
@@ -27,7 +29,9 @@ const OUTCOME: &str = "0f010000000100";
 const NOTICE: &str = "10020200000001";
 
 /// A node of shard 1 as it begins, in a run of that shard alone: node 1 leads it.
-fn begin(alloc: Global, name: NodeId, members: &[NodeId]) -> Result<Scanning, Fail> {
+fn begin(alloc: Global, name: NodeId, members: &[NodeId]) -> Result<Scanning, Fail>
+    requires { IsTrue (is_node name) }
+{
     let config = Config::build(1, 1, Vec::from_slice(alloc, members)?, 1, 0)?;
     Ok(Scanning::first(alloc, 1, name, 1, vec![in alloc; config]?)?)
 }
@@ -82,7 +86,15 @@ fn a_committed_value_is_read(rt: HostRuntime) -> Result<(), Fail> {
     let answer = hear(alloc, &mut node, 1, PREPARE_ACK, &mut out, &mut notes)?;
     assert_eq!(rt; answer, Handled::Held(1));
     assert_eq!(rt; notes.len(), 2);
-    assert_eq!(rt; (node.name(), node.shard(), node.state_epoch(), node.promised()), (1, 1, 1, 1));
+    assert_eq!(rt;
+        (
+            node.name(),
+            node.shard(),
+            node.state_epoch(),
+            node.promised()
+        ),
+        (1, 1, 1, 1)
+    );
     assert_eq!(rt; node.rows().len(), 1);
     assert_eq!(rt; node.view(1).map(|view| view.leader()), Some(1));
     let frames = [PREPARE, PREPARE_ACK, DECISION, OUTCOME, NOTICE];

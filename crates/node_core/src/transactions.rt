@@ -42,8 +42,7 @@ impl<G: VoteGuard> Parts<G> {
             home: self.replica.name(),
             seq: self.next,
         };
-        self.coordinator
-            .begin_case(txn, payload.copy(alloc)?, out)?;
+        self.coordinator.begin_case(txn, payload.copy(alloc)?, out)?;
         notes.push(Note::Begin { txn, payload })?;
         self.next += 1;
         Ok(Handled::Acted)

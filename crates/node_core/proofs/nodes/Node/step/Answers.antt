@@ -1,6 +1,7 @@
 -- A node that is not spent keeps what is sound and in range, and so does a step of it; a step that does not act leaves all.
-use Rattle.std.proofs.Common.{◌≡◌, Bool, true, false, refl, sym, ◌∙◌, ap, subst, append-nil}
+use Rattle.std.proofs.Common.{◌≡◌, Bool, true, false, List, ◌++◌, sym, ◌∙◌, ap, subst, append-nil}
 use Rattle.tcs_terms.specs.declared.inputs.Handled.{Handled}
+use Rattle.tcs_terms.specs.declared.inputs.Note.{Note}
 use Rattle.tcs_terms.specs.declared.inputs.Result1.TheVariants as results
 use Rattle.protocol.specs.FoundNothing.{has_acted}
 use Rattle.protocol.specs.Records.{NodeRecord}
@@ -24,3 +25,20 @@ invariant_of-self-2 g c =
       sound = step_sound _ c.self.inside.version c.self.inside.parts c.args.input k.sound;
       range = (step-in_range _ c.self.inside.version c.self.inside.parts c.args.input k.range (c.requires, c.promise.ensures)).kept;
     })
+
+pub returns-clause-range : goal.returns-clause-range
+returns-clause-range g c =
+    let k = unspent c.self.inside.spent c.self.inside.parts c.if-self.false c.self.invariant in
+    rw (← c.self.view_is) (step-in_range _ c.self.inside.version c.self.inside.parts c.args.input k.range (c.requires, c.promise.ensures)).sends
+
+pub returns-clause-unchanged : goal.returns-clause-unchanged
+returns-clause-unchanged g c = λ still.
+    let refused = ap (λ (h : Handled). has_acted (results.Node h)) (sym c.in_ok-handled.ensures.answer) ∙ still in
+    let r = step-refused _ c.self.inside.version c.self.inside.parts c.args.input refused in
+    rw (← c.self.view_is) (c.in_ok-handled.ensures.kept ∙ r.kept)
+
+pub returns-clause-silent : goal.returns-clause-silent
+returns-clause-silent g c = λ still.
+    let refused = ap (λ (h : Handled). has_acted (results.Node h)) (sym c.in_ok-handled.ensures.answer) ∙ still in
+    let r = step-refused _ c.self.inside.version c.self.inside.parts c.args.input refused in
+    c.in_ok-handled.ensures.notes ∙ ap (λ (more : List Note). c.args.notes.now.items ++ more) r.noted ∙ append-nil c.args.notes.now.items

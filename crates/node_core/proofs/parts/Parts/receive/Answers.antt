@@ -12,7 +12,8 @@ returns-clause-kept g c = rw (is_heard _ c.args.version c.args.self.now c.args.f
 pub returns-clause-sends : goal.returns-clause-sends
 returns-clause-sends g c =
     let promised : c.promised-full_mark.result ≡ c.args.self.now.promised = c.promised-full_mark.ensures.promised ∙ ap (λ (n : NodeRecord). n.promised) c.self.view_is in
-    received _ c.args.version c.args.self.now c.args.from c.args.message c.args.out.now.items _ _ _ _ c.in_ok-handled.ensures.answer promised c.in_ok-handled.ensures.sends c.in_ok-tell_if.ensures
+    received _ c.args.version c.args.self.now c.args.from c.args.message c.args.out.now.items _ _ _ _ c.in_ok-handled.ensures.answer promised c.in_ok-handled.ensures.sends
+    (rw (c.is_answered-told.ensures, c.kind-number.ensures) at c.in_ok-tell_if.ensures)
 
 pub returns-clause-notes : goal.returns-clause-notes
 returns-clause-notes g c = rw (is_heard _ c.args.version c.args.self.now c.args.from c.args.message).notes c.in_ok-handled.ensures.notes

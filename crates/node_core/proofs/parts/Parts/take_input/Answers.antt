@@ -18,15 +18,15 @@ certify-requires g c = next_absent c.args.self.now c.requires.sound
 
 pub returns-in-Nudge-clause-kept : goal.returns-in-Nudge-clause-kept
 unfolding step nudge
-returns-in-Nudge-clause-kept g c = rw c.in-Nudge.is (on_ok c.nudge.result refl)
+returns-in-Nudge-clause-kept g c = rw c.in-Nudge.is (on_ok c.nudge.result c.nudge.ensures.kept)
 
 pub returns-in-Nudge-clause-notes : goal.returns-in-Nudge-clause-notes
 unfolding step nudge
 returns-in-Nudge-clause-notes g c = rw c.in-Nudge.is (on_ok c.nudge.result (none_more _ _ refl))
 
-pub returns-in_ok-copy-in-Move-clause-notes : goal.returns-in_ok-copy-in-Move-clause-notes
+pub returns-in-Move-clause-notes : goal.returns-in-Move-clause-notes
 unfolding step move start_move
-returns-in_ok-copy-in-Move-clause-notes g c = rw c.in-Move.is (on_ok c.begin_move.result (none_more _ _ refl))
+returns-in-Move-clause-notes g c = rw c.in-Move.is (on_ok c.begin_move.result (none_more _ _ refl))
 
 pub returns-in-Lower-clause-notes : goal.returns-in-Lower-clause-notes
 unfolding step
