@@ -1,0 +1,11 @@
+pub mod Letters
+pub mod Writing
+pub mod CommitOrder
+pub mod Casting
+pub mod Laws
+pub mod Steps
+pub mod PeerLaws
+pub mod CastLaws
+pub mod WholeSteps
+pub mod Views
+pub mod FirstWorlds
