@@ -9,3 +9,5 @@ pub mod CastLaws
 pub mod WholeSteps
 pub mod Views
 pub mod FirstWorlds
+pub mod Turning
+pub mod Standing

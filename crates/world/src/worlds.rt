@@ -164,9 +164,11 @@ impl<G: VoteGuard> World<G> {
             → KeepsItsPromises G.Rule.tests self.old.setup (events ++ event ∷ []) self.new.progress }
     {
         if self.spent {
+            drop(event);
             return Err(Stop::OutOfMemory);
         }
         if let Some(sum) = self.full {
+            drop(event);
             return Err(Stop::SoupFull(sum));
         }
         self.spent = true;
