@@ -1,4 +1,4 @@
-use Rattle.std.proofs.Common.{◌≡◌, List, refl, sym, ap, ◌∙◌}
+use Rattle.std.proofs.Common.{◌≡◌, List, length, refl, sym, ap, ◌∙◌}
 use Rattle.protocol.specs.World.{Sent}
 use Rattle.world.specs.Turns.{LedgerState}
 use Rattle.world.proofs.Turning.{filled, turned}
@@ -21,4 +21,5 @@ pub returns-clause-turned : goal.returns-clause-turned
 returns-clause-turned g c =
     let e = c.in_default.ensures in
     rw (← c.ledger.view_is) (turned _ c.in-Ok.doing _ _ _ _ c.deref.result.now c.deref-2.result.now c.in-Ok.ensures c.deref.ensures.value c.deref-2.ensures.value
-    refl c.len.ensures c.len-2.ensures e.within e.ok c.in_ok-append.ensures.items c.in_ok-keep_commits.ensures)
+    refl (c.len.ensures ∙ sym c.deref-2.ensures.len ∙ ap length c.deref-2.ensures.value) (c.len-2.ensures ∙ sym c.deref.ensures.len ∙ ap length c.deref.ensures.value)
+    e.within e.ok c.in_ok-append.ensures.items c.in_ok-keep_commits.ensures)
