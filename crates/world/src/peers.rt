@@ -11,7 +11,7 @@ use node_core::Node;
 use std::alloc::Global;
 use std::marker::Model;
 use tcs_laws::VoteGuard;
-use tcs_terms::{Config, Handled, Input, NodeId, Note, OutOfMemory, Outgoing, Setup};
+use tcs_terms::{Handled, Input, NodeId, Note, OutOfMemory, Outgoing, Setup};
 
 /// The nodes of a run, 1 to 64 of them, node 1 first. Seen as what they keep, and the version that they follow.
 #[derive(Drop)]
