@@ -20,4 +20,4 @@ returns-clause-answer g c = λ node. rw (sym c.may_take.ensures ∙ c.if-not-may
 pub returns-clause-kept : goal.returns-clause-kept
 unfolding on_new_state when
 returns-clause-kept g c = λ node.
-    rw (sym c.may_take.ensures ∙ c.if-not-may_take.false, c.in_ok-follow.ensures.follows, c.into_list.ensures.list, c.drop_below.ensures, c.epoch-2.ensures.epoch, ← c.self.view_is, ← c.config.view_is) refl
+    rw (sym c.may_take.ensures ∙ c.if-not-may_take.false, c.in_ok-follow.ensures.follows, c.into_list.ensures.list, c.drop_below.ensures, c.epoch-2.ensures.epoch, ← c.self.view_is) refl
