@@ -1,10 +1,10 @@
 //! The certifier of the rule in which additions commute.
-ghost use Rattle.std.specs.Prelude.{◌≡◌, false};
+ghost use Rattle.std.specs.Prelude.{◌≡◌, true, false};
 ghost use Rattle.std.proofs.lemmas.Bool.{false≢true};
 ghost use Rattle.cert_commute.specs.Commute.{commute, is_counter, truly_seen, writes_truly_past, writes_truly_seen};
-ghost use Rattle.cert_commute.specs.CommuteLaws.{commute_lawful};
+ghost use Rattle.cert_commute.specs.CommuteLaws.{commute_lawful, counts_sight, commute_goes_by_sight};
 
-use tcs_laws::{Certifier, is_below, version_seen, writes};
+use tcs_laws::{BySight, Certifier, is_below, version_seen, writes};
 use tcs_terms::{Name, Payload};
 
 /// Serial certification in which additions to counters commute: a payload that writes a counter adds to it, and does
@@ -36,6 +36,22 @@ impl Certifier for Commute {
     ghost orders_writes = { λ orders. absurd (false≢true orders) };
 
     ghost checks_reads = { λ checks. absurd (false≢true checks) };
+}
+
+impl BySight for Commute {
+    ghost counts = { counts_sight };
+
+    ghost COUNTS_UNWRITTEN = { true };
+
+    const COUNTS_UNWRITTEN: bool = true;
+
+    fn sight_counts(payload: &Payload, name: &Name) -> bool {
+        !(is_counter(name) && writes(payload.writes(), name))
+    }
+
+    ghost goes_by_sight = { commute_goes_by_sight };
+
+    ghost counts_written = { λ no. absurd (false≢true no) };
 }
 
 /// Whether `writer` writes an object that `reader` truly saw at a version below that of the write.

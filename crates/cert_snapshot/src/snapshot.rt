@@ -2,10 +2,10 @@
 ghost use Rattle.std.specs.Prelude.{◌≡◌, true, false};
 ghost use Rattle.std.proofs.lemmas.Bool.{false≢true};
 ghost use Rattle.cert_snapshot.specs.Snapshot.{snapshot, writes_meet, writes_again};
-ghost use Rattle.cert_snapshot.specs.SnapshotLaws.{snapshot_lawful, snapshot_orders_writes};
+ghost use Rattle.cert_snapshot.specs.SnapshotLaws.{snapshot_lawful, snapshot_orders_writes, counts_own, snapshot_goes_by_sight, snapshot_counts_written};
 
-use tcs_laws::{Certifier, is_below, version_seen, writes};
-use tcs_terms::Payload;
+use tcs_laws::{BySight, Certifier, is_below, version_seen, writes};
+use tcs_terms::{Name, Payload};
 
 /// Snapshot certification: of two transactions none may commit beside the other that writes what the other one writes.
 #[derive(Clone, Copy, Debug, PartialEq, Eq)]
@@ -35,6 +35,22 @@ impl Certifier for Snapshot {
     ghost orders_writes = { λ _. snapshot_orders_writes };
 
     ghost checks_reads = { λ checks. absurd (false≢true checks) };
+}
+
+impl BySight for Snapshot {
+    ghost counts = { counts_own };
+
+    ghost COUNTS_UNWRITTEN = { false };
+
+    const COUNTS_UNWRITTEN: bool = false;
+
+    fn sight_counts(payload: &Payload, name: &Name) -> bool {
+        writes(payload.writes(), name)
+    }
+
+    ghost goes_by_sight = { snapshot_goes_by_sight };
+
+    ghost counts_written = { λ _. snapshot_counts_written };
 }
 
 /// Whether both write some object that `new` saw at a version below that of the write of `old`.

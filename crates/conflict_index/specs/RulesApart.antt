@@ -9,7 +9,8 @@ use Rattle.tcs_terms.specs.Payloads.{Accesses, IsPayload, same_name, reads_name}
 use Rattle.tcs_terms.specs.Shards.{seen, in_range_part, version_seen, range_version}
 use Rattle.tcs_laws.specs.Writing.{writes_name, seen_below}
 use Rattle.tcs_laws.proofs.ListLemmas.{any_less, all_at, find_some}
-use Rattle.tcs_laws.proofs.SightLaws.{Sight, by_sight, none_below, unseen_not_below}
+use Rattle.tcs_laws.specs.Sight.{Sight, by_sight}
+use Rattle.tcs_laws.proofs.SightLaws.{none_below, unseen_not_below}
 use Rattle.cert_serial.specs.Serial.{serial}
 use Rattle.cert_snapshot.specs.Snapshot.{snapshot}
 use Rattle.cert_commute.specs.Commute.{commute, truly_seen, adds_to}

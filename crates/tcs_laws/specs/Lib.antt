@@ -3,3 +3,4 @@ pub mod Votes
 pub mod Writing
 pub mod Laws
 pub mod Rows
+pub mod Sight
