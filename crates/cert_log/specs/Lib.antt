@@ -1,3 +1,4 @@
+pub mod Fencing
 pub mod Places
 pub mod Preparing
 pub mod Standing

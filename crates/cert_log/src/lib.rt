@@ -1,8 +1,9 @@
 //! The log of a node: rows in ascending slots, each an entry and what is known of its outcome, with the guard that
-//! gives a leader's votes.
+//! gives a leader's votes. `Fenced` is a log to which no call adds a row.
 #![tactic(auto)]
 
 mod faults;
+mod fenced;
 mod log;
 mod marks;
 mod row_search;
@@ -11,4 +12,5 @@ mod standing;
 mod tests;
 
 pub use faults::PrepareFault;
+pub use fenced::Fenced;
 pub use log::CertLog;

@@ -52,7 +52,7 @@ impl<G: VoteGuard> CertLog<G> {
     }
 
     /// The log of rows that were handed over. They may have marks.
-    pub fn build(alloc: Global, rows: Vec<Row>) -> Result<CertLog<G>, OutOfMemory>
+    pub fn from_rows(alloc: Global, rows: Vec<Row>) -> Result<CertLog<G>, OutOfMemory>
         requires { AreRows rows.items }
         ensures { IfOk result (λ log. log ≡ rows.items) }
     {
@@ -79,11 +79,18 @@ impl<G: VoteGuard> CertLog<G> {
         }
     }
 
+    /// The row of a slot.
+    pub fn at(&self, slot: Slot) -> Option<&Row>
+        ensures { option_copied result ≡ row_at self.now slot }
+    {
+        row_at(&self.rows, slot)
+    }
+
     /// Whether the row of this slot is of this transaction.
     pub fn has_at(&self, slot: Slot, txn: TxId) -> bool
         ensures { result ≡ has_at self.now slot txn }
     {
-        match row_at(&self.rows, slot) {
+        match self.at(slot) {
             None => false,
             Some(row) => row.entry.txn == txn,
         }
@@ -102,8 +109,7 @@ impl<G: VoteGuard> CertLog<G> {
         ensures { result ≡ is_taken self.now entry.now }
     {
         let (slot, txn) = (entry.slot, entry.txn);
-        !self.has_at(slot, txn)
-            && (row_at(&self.rows, slot).is_some() || self.row_of(txn).is_some())
+        !self.has_at(slot, txn) && (self.at(slot).is_some() || self.row_of(txn).is_some())
     }
 
     /// Prepares a transaction: the entry that the log keeps of it, else one in the next slot, with the vote over the

@@ -86,7 +86,7 @@ fn full_log(alloc: Global) -> Result<SerialLog, Fail> {
         entry: lost_entry(alloc, MAX_SLOT, 1)?,
         mark: Mark::Aborted,
     };
-    Ok(SerialLog::build(alloc, vec![in alloc; row]?)?)
+    Ok(SerialLog::from_rows(alloc, vec![in alloc; row]?)?)
 }
 
 /// The entry of transaction 1.`seq`, which lost its payload.

@@ -6,13 +6,9 @@ use Rattle.std.proofs.lemmas.List.{take-append-drop}
 use Rattle.std.proofs.lemmas.List.Folds.{list_all-append}
 use Rattle.tcs_terms.specs.declared.limits.TheConstants.{MAX_SLOT, MAX_PIECE_ROWS}
 use Rattle.tcs_terms.specs.declared.logs.Row.{Row}
-use Rattle.tcs_terms.specs.declared.faults.RowsFault.{RowsFault}
-use Rattle.tcs_terms.specs.declared.faults.RowsFault.TheVariants.{Bad}
 use Rattle.tcs_terms.specs.Order.{ascends}
 use Rattle.tcs_terms.specs.Logs.{AreRows, txns_differ}
-use Rattle.tcs_terms.specs.RowFaults.{RowsRefused}
 use Rattle.tcs_terms.proofs.BoolLaws.{both, left_of, right_of}
-use Rattle.tcs_terms.proofs.RowLaws.{no_fault_of_rows}
 use Rattle.protocol.specs.Pieces.{piece_of}
 use Rattle.state_transfer.proofs.Chains.{Chain, cut}
 use Rattle.state_transfer.proofs.Wholeness.{slots_of, txns_of, Precedes, chain_of_whole, whole_of_chain}
@@ -59,7 +55,3 @@ piece_of_rows rows number are =
     let before = MAX_PIECE_ROWS * (number - 1) in
     let rest : AreRows (drop before rows) = (rows_in_parts (take before rows) (drop before rows) (rw (take-append-drop before rows) are)).1 in
     (rows_in_parts (take MAX_PIECE_ROWS (drop before rows)) (drop MAX_PIECE_ROWS (drop before rows)) (rw (take-append-drop MAX_PIECE_ROWS (drop before rows)) rest)).0
-
--- none of a log's rows is refused
-pub none_is_bad : (rows : List Row) (fault : RowsFault) (place : ℕ) → AreRows rows → fault ≡ Bad place → RowsRefused rows fault → ⊥
-none_is_bad rows fault place are bad refused = let none = no_fault_of_rows rows are in let some = rw bad at refused in cc

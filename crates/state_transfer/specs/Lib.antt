@@ -1,3 +1,4 @@
 pub mod Apart
+pub mod Arriving
 pub mod Sent
 pub mod Keeping

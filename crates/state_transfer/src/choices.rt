@@ -2,27 +2,23 @@
 ghost use Rattle.std.specs.Prelude.{◌≡◌, ◌≤◌, IfOk, IsTrue};
 ghost use Rattle.tcs_terms.specs.Logs.{AreRows};
 ghost use Rattle.protocol.specs.Pieces.{begun, gathered_from, gathering_for, takes_piece, with_one_more};
+ghost use Rattle.state_transfer.specs.Arriving.{kept_as};
 
 use crate::gatherings::Gathering;
+use crate::pieces::StatePiece;
 use std::alloc::Global;
 use tcs_terms::{Config, Epoch, OutOfMemory, Rows};
 
 /// Whether a piece for a configuration may be taken: nothing is gathered, or for a lower epoch, or for this configuration
 /// and the piece fits.
-pub fn takes_piece(
-    gathering: &Option<Gathering>,
-    config: &Config,
-    pieces: u16,
-    number: u16,
-    rows: &Rows,
-) -> bool
-    ensures { result ≡ takes_piece gathering.now config.now pieces (record { number = number; rows = rows.now }) }
+pub fn takes_piece(gathering: &Option<Gathering>, config: &Config, piece: &StatePiece) -> bool
+    ensures { result ≡ takes_piece gathering.now config.now piece.now.pieces (kept_as piece.now) }
 {
     match gathering {
         None => true,
         Some(gathering) => {
             gathering.config().epoch() < config.epoch()
-                || (gathering.is_for(config) && gathering.fits(pieces, number, rows))
+                || (gathering.is_for(config) && gathering.fits(piece))
         }
     }
 }
@@ -59,19 +55,15 @@ pub fn gather(
     alloc: Global,
     gathering: Option<Gathering>,
     config: &Config,
-    pieces: u16,
-    number: u16,
-    rows: &Rows,
+    piece: StatePiece,
 ) -> Result<Gathering, OutOfMemory>
-    requires taken { IsTrue (takes_piece gathering config.now pieces (record { number = number; rows = rows.now })) }
-    requires from_one { 1 ≤ number }
-    requires one_of { number ≤ pieces }
-    ensures { IfOk result (λ g. g ≡ with_one_more (gathering_for gathering config.now pieces) (record { number = number; rows = rows.now })) }
+    requires taken { IsTrue (takes_piece gathering config.now piece.pieces (kept_as piece)) }
+    requires from_one { 1 ≤ piece.number }
+    requires one_of { piece.number ≤ piece.pieces }
+    ensures { IfOk result (λ g. g ≡ with_one_more (gathering_for gathering config.now piece.pieces) (kept_as piece)) }
 {
-    knows_rows(rows);
-    let mut gathering = gathering_for(alloc, gathering, config, pieces)?;
-    gathering.add(alloc, number, rows)?;
-    Ok(gathering)
+    knows_rows(&piece.rows);
+    gathering_for(alloc, gathering, config, piece.pieces)?.with(piece)
 }
 
 /// Rows are those of a log by their type.

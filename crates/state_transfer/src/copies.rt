@@ -3,7 +3,7 @@ ghost use Rattle.std.specs.Prelude.{◌≡◌, ◌++◌, IfOk, OnOk};
 ghost use Rattle.tcs_terms.specs.Logs.{AreRows};
 
 use std::alloc::Global;
-use tcs_terms::{OutOfMemory, Row, Rows, RowsFault};
+use tcs_terms::{OutOfMemory, Row, Rows};
 
 /// Appends copies of rows.
 pub fn push_copies(alloc: Global, rows: &[Row], copies: &mut Vec<Row>) -> Result<(), OutOfMemory>
@@ -22,9 +22,5 @@ pub fn copied(alloc: Global, rows: &[Row]) -> Result<Rows, OutOfMemory>
 {
     let mut copies = Vec::new(alloc);
     push_copies(alloc, rows, &mut copies)?;
-    match Rows::build(copies) {
-        Ok(copy) => Ok(copy),
-        Err(RowsFault::OutOfMemory) => Err(OutOfMemory),
-        Err(RowsFault::Bad(_)) => unreachable!(),
-    }
+    Ok(Rows::of(copies))
 }

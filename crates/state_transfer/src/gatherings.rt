@@ -1,14 +1,15 @@
 //! What a follower gathers of the rows of a configuration's leader.
-ghost use Rattle.std.specs.Prelude.{◌≡◌, IfOk, OnOk, IsTrue};
+ghost use Rattle.std.specs.Prelude.{◌≡◌, IfOk, IsTrue};
 ghost use Rattle.tcs_terms.specs.Logs.{AreRows};
 ghost use Rattle.protocol.specs.Pieces.{begun, fits, is_gathering_of, is_whole, rows_of, with_one_more};
 ghost use Rattle.protocol.specs.Views.{same_config};
+ghost use Rattle.state_transfer.specs.Arriving.{kept_as};
 
 use crate::kept_pieces::KeptPieces;
+use crate::pieces::StatePiece;
 use std::alloc::Global;
 use std::marker::Model;
-use std::mem;
-use tcs_terms::{Config, OutOfMemory, Row, Rows};
+use tcs_terms::{Config, OutOfMemory, Row};
 
 /// The pieces that came of the rows of a configuration's leader, and how many there are.
 #[derive(Debug, Drop)]
@@ -51,28 +52,34 @@ impl Gathering {
         same_config(&self.config, config)
     }
 
-    /// Whether the piece of a number, of so many pieces, fits what is gathered.
-    pub fn fits(&self, pieces: u16, number: u16, rows: &Rows) -> bool
-        ensures { result ≡ fits self.now pieces (record { number = number; rows = rows.now }) }
+    /// Whether a piece fits what is gathered.
+    pub fn fits(&self, piece: &StatePiece) -> bool
+        ensures { result ≡ fits self.now piece.now.pieces (kept_as piece.now) }
     {
-        self.pieces == pieces
-            && 1 <= number
-            && number <= pieces
-            && (self.kept.has(number) || self.kept.has_room(number, rows.list()))
+        self.pieces == piece.pieces
+            && 1 <= piece.number
+            && piece.number <= piece.pieces
+            && (self.kept.has(piece.number) || self.kept.has_room(piece.number, piece.rows.list()))
     }
 
-    /// Adds a piece that fits; one that is kept already stays. After an error the gathering is to be dropped.
-    pub fn add(&mut self, alloc: Global, number: u16, rows: &Rows) -> Result<(), OutOfMemory>
-        requires { IsTrue (fits self.old self.old.pieces (record { number = number; rows = rows.now })) }
-        ensures { OnOk result (self.new ≡ with_one_more self.old (record { number = number; rows = rows.now })) }
+    /// What is gathered with a piece more, one that fits; a piece that is kept already stays.
+    pub fn with(self, piece: StatePiece) -> Result<Gathering, OutOfMemory>
+        requires { IsTrue (fits self self.pieces (kept_as piece)) }
+        ensures { IfOk result (λ g. g ≡ with_one_more self (kept_as piece)) }
     {
-        if self.kept.has(number) {
-            return Ok(());
+        if self.kept.has(piece.number) {
+            return Ok(self);
         }
-        let rows = rows.copy(alloc)?;
-        let kept = mem::replace(&mut self.kept, KeptPieces::new(alloc));
-        self.kept = kept.with(number, rows)?;
-        Ok(())
+        let Gathering {
+            config,
+            pieces,
+            kept,
+        } = self;
+        Ok(Gathering {
+            config,
+            pieces,
+            kept: kept.with(piece.number, piece.rows)?,
+        })
     }
 
     /// Whether every piece is there.
@@ -87,7 +94,7 @@ impl Gathering {
         ensures rows { IfOk result (λ rows. rows.items ≡ rows_of self.kept) }
         ensures log { IfOk result (λ rows. AreRows rows.items) }
     {
-        self.kept.rows(alloc)
+        self.kept.into_rows(alloc)
     }
 }
 

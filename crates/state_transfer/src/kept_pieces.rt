@@ -6,7 +6,6 @@ ghost use Rattle.protocol.specs.Pieces.{are_whole, is_kept, rows_of, with_piece}
 ghost use Rattle.state_transfer.specs.Apart.{stands_apart};
 
 use crate::apart::{are_new, ends_below};
-use crate::copies::push_copies;
 use std::alloc::Global;
 use std::collections::HashSet;
 use std::marker::Model;
@@ -91,17 +90,27 @@ impl KeptPieces {
         Ok(KeptPieces { list, txns })
     }
 
-    /// Copies of all rows, slots ascending.
-    pub fn rows(&self, alloc: Global) -> Result<Vec<Row>, OutOfMemory>
-        ensures rows { IfOk result (λ rows. rows.items ≡ rows_of self.now) }
-        ensures log { AreRows (rows_of self.now) }
+    /// All rows, slots ascending, moved together.
+    pub fn into_rows(self, alloc: Global) -> Result<Vec<Row>, OutOfMemory>
+        ensures rows { IfOk result (λ rows. rows.items ≡ rows_of self) }
+        ensures log { AreRows (rows_of self) }
     {
         let mut rows = Vec::new(alloc);
-        for piece in &self.list {
-            push_copies(alloc, piece.rows.list(), &mut rows)?;
+        for piece in self.list {
+            push_rows(piece.rows.into_list(), &mut rows)?;
         }
         Ok(rows)
     }
+}
+
+/// Moves rows behind others.
+fn push_rows(more: Vec<Row>, rows: &mut Vec<Row>) -> Result<(), OutOfMemory>
+    ensures { OnOk result (rows.new.items ≡ rows.old.items ++ more.items) }
+{
+    for row in more {
+        rows.push(row)?;
+    }
+    Ok(())
 }
 
 /// Whether the rows of the piece of a number stand on the right side of each other piece.

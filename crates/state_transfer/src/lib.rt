@@ -12,7 +12,6 @@ mod sending;
 mod tests;
 
 pub use choices::{drop_below, gather, gathering_for, takes_piece};
-pub use copies::push_copies;
 pub use gatherings::Gathering;
-pub use pieces::{piece, piece_count};
+pub use pieces::{StatePiece, piece, piece_count};
 pub use sending::{send_state, send_states};

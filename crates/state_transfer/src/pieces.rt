@@ -3,8 +3,16 @@ ghost use Rattle.std.specs.Prelude.{◌≡◌};
 ghost use Rattle.tcs_terms.specs.Logs.{AreRows};
 ghost use Rattle.protocol.specs.Pieces.{piece_count, piece_of};
 
-use tcs_terms::Row;
 use tcs_terms::limits::MAX_PIECE_ROWS;
+use tcs_terms::{Row, Rows};
+
+/// A piece of a leader's rows as it comes: its number, from 1, of how many pieces, and its rows.
+#[derive(Debug, Drop)]
+pub struct StatePiece {
+    pub number: u16,
+    pub pieces: u16,
+    pub rows: Rows,
+}
 
 /// Into how many pieces of at most 24 rows a log's rows are cut: 1 to 171.
 pub fn piece_count(rows: &[Row]) -> u16

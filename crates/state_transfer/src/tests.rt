@@ -44,9 +44,14 @@ fn gathered(
             pieces,
             rows,
         } => {
-            assert!(rt; takes_piece(&before, config, *pieces, *piece, rows));
-            assert!(rt; 1 <= *piece && *piece <= *pieces);
-            Ok(gather(alloc, before, config, *pieces, *piece, rows)?)
+            let piece = StatePiece {
+                number: *piece,
+                pieces: *pieces,
+                rows: rows.copy(alloc)?,
+            };
+            assert!(rt; takes_piece(&before, config, &piece));
+            assert!(rt; 1 <= piece.number && piece.number <= piece.pieces);
+            Ok(gather(alloc, before, config, piece)?)
         }
         _ => panic!(rt; "a piece of a state"),
     }

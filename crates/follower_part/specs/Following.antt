@@ -1,0 +1,9 @@
+-- What a follower keeps.
+use Rattle.std.specs.Prelude.{List}
+use Rattle.tcs_terms.specs.declared.logs.Row.{Row}
+use Rattle.tcs_terms.specs.Places.{Membership}
+
+-- the configuration that it follows, and its rows
+pub record FollowerState : Type 0 where
+  pub config : Membership
+  pub rows : List Row

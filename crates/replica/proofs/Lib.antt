@@ -1,0 +1,4 @@
+pub mod Marking
+pub mod Standing
+pub mod PrepareRule
+pub mod PieceRule
