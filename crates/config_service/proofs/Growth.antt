@@ -5,9 +5,9 @@ use Rattle.std.specs.List.{slice_get, slice_set, range_with_len, last_or}
 use Rattle.std.specs.Option.{option_and_then}
 use Rattle.std.proofs.lemmas.Bool.{eqb-true, cases_lt}
 use Rattle.std.proofs.lemmas.Bool.Decides.{nat_tests}
-use Rattle.std.proofs.lemmas.List.Elements.{filter-append}
+use Rattle.std.proofs.lemmas.List.Elements.{filter-append, All-nil, All-cons, All-append}
 use Rattle.std.proofs.lemmas.List.{append-nil, map-append}
-use Rattle.tcs_terms.specs.Places.{Membership}
+use Rattle.tcs_terms.specs.Places.{Membership, IsMembership}
 use Rattle.protocol.specs.Service.{last_config, is_next}
 use Rattle.config_service.specs.Index.{of_shard, last_place, places_of, IsPlaced, IsIndex}
 use Rattle.config_service.proofs.Lookups.{last_config_place}
@@ -95,9 +95,9 @@ places_elsewhere (x ∷ xs) (suc s) zero w apart = refl
 places_elsewhere (x ∷ xs) (suc s) (suc t) w apart = places_elsewhere xs s t w (λ e. apart (ap suc e))
 
 index_grows : (cs : List Membership) (c last : Membership) (index : List (List ℕ)) → IsIndex cs index → c.shard < length index
-    → last_or None (of_shard cs c.shard) ≡ Some last → c.epoch ≡ last.epoch + 1
+    → last_or None (of_shard cs c.shard) ≡ Some last → c.epoch ≡ last.epoch + 1 → IsMembership c
     → IsIndex (cs ++ c ∷ []) (slice_set index c.shard (places_of index c.shard ++ length cs ∷ []))
-index_grows cs c last index h lt e next = record { each = λ shard. go shard (shard == c.shard) refl } where
+index_grows cs c last index h lt e next one = record { each = λ shard. go shard (shard == c.shard) refl; configs = All-append IsMembership cs (c ∷ []) h.configs (All-cons IsMembership c [] one (All-nil IsMembership)) } where
   w : List ℕ
   w = places_of index c.shard ++ length cs ∷ []
 
@@ -132,8 +132,8 @@ next_indexed cs c index h next = go (cases_lt c.shard (length index)) where
       absurd cc
 
 -- the index with the place of the next configuration is that of all
-pub next_stored : (cs : List Membership) (c : Membership) (index : List (List ℕ)) → IsIndex cs index → is_next (last_config cs c.shard) c ≡ true
+pub next_stored : (cs : List Membership) (c : Membership) (index : List (List ℕ)) → IsIndex cs index → is_next (last_config cs c.shard) c ≡ true → IsMembership c
     → IsIndex (cs ++ c ∷ []) (slice_set index c.shard (places_of index c.shard ++ length cs ∷ []))
-next_stored cs c index h next =
+next_stored cs c index h next one =
     let last = next_after (last_config cs c.shard) c next in
-    index_grows cs c last.0 index h (next_indexed cs c index h next) last.1 last.2
+    index_grows cs c last.0 index h (next_indexed cs c index h next) last.1 last.2 one

@@ -1,7 +1,7 @@
 -- Where the configurations of each shard stand in the list of all that are stored.
-use Rattle.std.specs.Prelude.{◌≡◌, ℕ, zero, suc, ◌-◌, ◌==◌, List, [], ◌∷◌, filter, map, length, Option, Some, None}
+use Rattle.std.specs.Prelude.{◌≡◌, ℕ, zero, suc, ◌-◌, ◌==◌, List, [], ◌∷◌, filter, map, length, Option, Some, None, All}
 use Rattle.std.specs.List.{slice_get, range_with_len}
-use Rattle.tcs_terms.specs.Places.{Membership}
+use Rattle.tcs_terms.specs.Places.{Membership, IsMembership}
 
 -- the configurations of a shard, in the order in which they were stored
 abbrev pub of_shard : List Membership → ℕ → List Membership
@@ -30,9 +30,10 @@ pub record IsPlaced (configs : List Membership) (shard : ℕ) (places : List ℕ
   pub stand : map (λ p. slice_get configs p) places ≡ map (λ c. Some c) (of_shard configs shard)
   pub epochs : map (λ c. c.epoch) (of_shard configs shard) ≡ range_with_len 1 (length places)
 
--- an index tells the places of each shard's configurations
+-- an index tells the places of each shard's configurations, which are well formed
 pub record IsIndex (configs : List Membership) (index : List (List ℕ)) : Type 0 where
   pub each : (shard : ℕ) → IsPlaced configs shard (places_of index shard)
+  pub configs : All IsMembership configs
 
 -- the index of n first configurations
 abbrev pub first_index : ℕ → List (List ℕ)

@@ -1,3 +1,4 @@
+pub mod Comparing
 pub mod Firsts
 pub mod Index
 pub mod Marks

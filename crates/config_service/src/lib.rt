@@ -2,6 +2,7 @@
 //! that is stored. After the configuration service of Bravo and Gotsman (PODC 2019); its messages are this project's own.
 #![tactic(auto)]
 
+mod comparing;
 mod holding;
 mod places;
 mod sending;
@@ -10,4 +11,5 @@ mod serving;
 #[cfg(test)]
 mod tests;
 
+pub use comparing::CasAnswer;
 pub use service::ConfigService;

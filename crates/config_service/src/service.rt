@@ -15,7 +15,7 @@ use tcs_terms::{Config, Epoch, OutOfMemory, ShardId};
 /// were stored.
 #[derive(Debug, Drop)]
 pub struct ConfigService {
-    configs: Vec<Config>,
+    pub(crate) configs: Vec<Config>,
     /// The places in `configs` of each shard's configurations, at the shard's number.
     index: Vec<Places>,
 }

@@ -1,9 +1,12 @@
 //! What the service does with a message.
-ghost use Rattle.std.specs.Prelude.{◌≡◌, ◌++◌, List, IfOk, OnOk, OnErr, option_copied};
+ghost use Rattle.std.specs.Prelude.{◌≡◌, ◌≤◌, ◌++◌, List, IfOk, OnOk, OnErr, option_copied};
+ghost use Rattle.tcs_terms.specs.declared.limits.TheConstants.{MAX_NODES};
+ghost use Rattle.tcs_terms.specs.Messages.{InRange};
 ghost use Rattle.tcs_terms.specs.Places.{Membership};
 ghost use Rattle.tcs_terms.specs.declared.messages.Message.TheVariants.{Last, At, Cas};
 ghost use Rattle.protocol.specs.Notices.{with_notice};
 ghost use Rattle.protocol.specs.Service.{is_next, answer_stored, store, serve};
+ghost use Rattle.protocol_laws.specs.Ranges.{AreInRange};
 
 use crate::sending::{send_stored, tell_nodes};
 use crate::service::ConfigService;
@@ -20,9 +23,30 @@ const CAS: u8 = 13;
 
 impl ConfigService {
     /// Does with a message, from a node of a run with so many nodes, what the configuration service does with it, and
-    /// appends what is sent. Where memory runs out nothing is stored, and what was appended is to be dropped.
-    #[tactic(auto, unfolding(protocol::specs::Service::serve, protocol::specs::Notices::with_notice))]
+    /// appends what is sent, which is in range where the message is and nodes are at most 64. Where memory runs out nothing
+    /// is stored, and what was appended is to be dropped.
     pub fn serve(
+        &mut self,
+        alloc: Global,
+        nodes: NodeId,
+        from: NodeId,
+        message: &Message,
+        out: &mut Vec<Outgoing>,
+    ) -> Result<Handled, OutOfMemory>
+        ensures answer { IfOk result (λ h. h ≡ (serve nodes self.old from message.now).answer) }
+        ensures kept { OnOk result (self.new ≡ (serve nodes self.old from message.now).kept) }
+        ensures sends { OnOk result (out.new.items ≡ out.old.items ++ (serve nodes self.old from message.now).sends) }
+        ensures range { nodes ≤ MAX_NODES → InRange message.now → OnOk result (AreInRange (serve nodes self.old from message.now).sends) }
+        ensures err { OnErr result (self.new ≡ self.old) }
+    {
+        // What is stored is well formed.
+        let _ = &self.configs;
+        self.hear(alloc, nodes, from, message, out)
+    }
+
+    /// The rule of a message.
+    #[tactic(auto, unfolding(protocol::specs::Service::serve, protocol::specs::Notices::with_notice))]
+    fn hear(
         &mut self,
         alloc: Global,
         nodes: NodeId,
@@ -169,7 +193,7 @@ fn answer(
 }
 
 /// Whether a configuration is the next one of a shard, after the last one.
-fn is_next(last: Option<&Config>, config: &Config) -> bool
+pub(crate) fn is_next(last: Option<&Config>, config: &Config) -> bool
     ensures { result ≡ is_next (option_copied last.entry) config.now }
 {
     match last {

@@ -17,4 +17,4 @@ invariant_of-self-2 c =
     let next : is_next (last_config stored.configs.items config.shard) config ≡ true = rw c.self.view_is c.requires in
     let count : c.len.result ≡ length stored.configs.items = omega (arith, ap length c.reserve.ensures.items) in
     rw (c.in_ok-push.ensures.items, c.reserve.ensures.items, c.in_ok-push_place.ensures.ok, c.shard.ensures.shard, count)
-    (next_stored stored.configs.items config stored.index.items c.self.invariant next)
+    (next_stored stored.configs.items config stored.index.items c.self.invariant next c.shard.ensures.config)
