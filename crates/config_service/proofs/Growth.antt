@@ -5,7 +5,7 @@ use Rattle.std.specs.List.{slice_get, slice_set, range_with_len, last_or}
 use Rattle.std.specs.Option.{option_and_then}
 use Rattle.std.proofs.lemmas.Bool.{eqb-true, cases_lt}
 use Rattle.std.proofs.lemmas.Bool.Decides.{nat_tests}
-use Rattle.std.proofs.lemmas.List.Elements.{filter-append, All-nil, All-cons, All-append}
+use Rattle.std.proofs.lemmas.List.Elements.{filter-append, All-push}
 use Rattle.std.proofs.lemmas.List.{append-nil, map-append}
 use Rattle.tcs_terms.specs.Places.{Membership, IsMembership}
 use Rattle.protocol.specs.Service.{last_config, is_next}
@@ -97,7 +97,10 @@ places_elsewhere (x ∷ xs) (suc s) (suc t) w apart = places_elsewhere xs s t w 
 index_grows : (cs : List Membership) (c last : Membership) (index : List (List ℕ)) → IsIndex cs index → c.shard < length index
     → last_or None (of_shard cs c.shard) ≡ Some last → c.epoch ≡ last.epoch + 1 → IsMembership c
     → IsIndex (cs ++ c ∷ []) (slice_set index c.shard (places_of index c.shard ++ length cs ∷ []))
-index_grows cs c last index h lt e next one = record { each = λ shard. go shard (shard == c.shard) refl; configs = All-append IsMembership cs (c ∷ []) h.configs (All-cons IsMembership c [] one (All-nil IsMembership)) } where
+index_grows cs c last index h lt e next one = record {
+      each = λ shard. go shard (shard == c.shard) refl;
+      configs = All-push IsMembership cs c h.configs one;
+    } where
   w : List ℕ
   w = places_of index c.shard ++ length cs ∷ []
 

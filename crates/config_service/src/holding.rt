@@ -1,7 +1,7 @@
 //! Messages that the service does not act on.
 ghost use Rattle.std.specs.Prelude.{◌≡◌, ◌++◌, IfOk, OnOk};
 ghost use Rattle.tcs_terms.specs.declared.inputs.Handled.TheVariants.{Held};
-ghost use Rattle.wire_frame.specs.Spelling.{kind_of};
+ghost use Rattle.tcs_terms.specs.Kinds.{kind_of, kind_number};
 ghost use Rattle.protocol.specs.Notices.{notice_of};
 ghost use Rattle.protocol.specs.Service.{last_epoch};
 ghost use Rattle.config_service.specs.Marks.{mark_of};
@@ -9,7 +9,6 @@ ghost use Rattle.config_service.specs.Marks.{mark_of};
 use crate::service::ConfigService;
 use answers::notify;
 use tcs_terms::{Epoch, Handled, Message, NodeId, OutOfMemory, Outgoing, ShardId};
-use wire_frame::kind;
 
 impl ConfigService {
     /// The last epoch of a shard, 0 where the run does not have the shard.
@@ -55,10 +54,10 @@ impl ConfigService {
         out: &mut Vec<Outgoing>,
     ) -> Result<Handled, OutOfMemory>
         ensures answer { IfOk result (λ h. h ≡ Held (mark_of self.now message.now)) }
-        ensures sends { OnOk result (out.new.items ≡ out.old.items ++ notice_of (Held (mark_of self.now message.now)) from (kind_of message.now) 0) }
+        ensures sends { OnOk result (out.new.items ≡ out.old.items ++ notice_of (Held (mark_of self.now message.now)) from (kind_number (kind_of message.now)) 0) }
     {
         let handled = Handled::Held(self.mark_of(message));
-        notify(handled, from, kind(message), 0, out)?;
+        notify(handled, from, message.kind().number(), 0, out)?;
         Ok(handled)
     }
 }

@@ -1,9 +1,13 @@
 //! What the service does with a message.
-ghost use Rattle.std.specs.Prelude.{◌≡◌, ◌≤◌, ◌++◌, List, IfOk, OnOk, OnErr, option_copied};
+ghost use Rattle.std.specs.Prelude.{◌≡◌, ◌≤◌, ◌++◌, false, List, IfOk, OnOk, OnErr, option_copied};
+ghost use Rattle.tcs_terms.specs.declared.inputs.Result1.TheVariants.{Node};
+ghost use Rattle.tcs_terms.specs.declared.kinds.Kind.TheVariants as kinds;
 ghost use Rattle.tcs_terms.specs.declared.limits.TheConstants.{MAX_NODES};
+ghost use Rattle.tcs_terms.specs.Kinds.{kind_number};
 ghost use Rattle.tcs_terms.specs.Messages.{InRange};
 ghost use Rattle.tcs_terms.specs.Places.{Membership};
 ghost use Rattle.tcs_terms.specs.declared.messages.Message.TheVariants.{Last, At, Cas};
+ghost use Rattle.protocol.specs.FoundNothing.{has_acted};
 ghost use Rattle.protocol.specs.Notices.{with_notice};
 ghost use Rattle.protocol.specs.Service.{is_next, answer_stored, store, serve};
 ghost use Rattle.protocol_laws.specs.Ranges.{AreInRange};
@@ -12,19 +16,12 @@ use crate::sending::{send_stored, tell_nodes};
 use crate::service::ConfigService;
 use answers::notify;
 use std::alloc::Global;
-use tcs_terms::{Config, Epoch, Handled, Message, NodeId, OutOfMemory, Outgoing, ShardId};
-
-/// The kinds of the messages that the service acts on, as the first bytes of their frames.
-const LAST: u8 = 11;
-
-const AT: u8 = 12;
-
-const CAS: u8 = 13;
+use tcs_terms::{Config, Epoch, Handled, Kind, Message, NodeId, OutOfMemory, Outgoing, ShardId};
 
 impl ConfigService {
     /// Does with a message, from a node of a run with so many nodes, what the configuration service does with it, and
-    /// appends what is sent, which is in range where the message is and nodes are at most 64. Where memory runs out nothing
-    /// is stored, and what was appended is to be dropped.
+    /// appends what is sent, which is in range where the message is and nodes are at most 64. Where it does not act, what is
+    /// stored stays as it was. Where memory runs out nothing is stored, and what was appended is to be dropped.
     pub fn serve(
         &mut self,
         alloc: Global,
@@ -37,6 +34,7 @@ impl ConfigService {
         ensures kept { OnOk result (self.new ≡ (serve nodes self.old from message.now).kept) }
         ensures sends { OnOk result (out.new.items ≡ out.old.items ++ (serve nodes self.old from message.now).sends) }
         ensures range { nodes ≤ MAX_NODES → InRange message.now → OnOk result (AreInRange (serve nodes self.old from message.now).sends) }
+        ensures unchanged { IfOk result (λ h. has_acted (Node h) ≡ false → self.new ≡ self.old) }
         ensures err { OnErr result (self.new ≡ self.old) }
     {
         // What is stored is well formed.
@@ -93,7 +91,7 @@ impl ConfigService {
         ensures kept { OnOk result (self.now ≡ (serve 0 self.now from (Last shard)).kept) }
         ensures sends { OnOk result (out.new.items ≡ out.old.items ++ (serve 0 self.now from (Last shard)).sends) }
     {
-        answer(alloc, from, LAST, 0, self.last(shard), out)
+        answer(alloc, from, Kind::Last, 0, self.last(shard), out)
     }
 
     /// Answers the configuration of a shard's epoch.
@@ -111,7 +109,7 @@ impl ConfigService {
         ensures sends { OnOk result (out.new.items ≡ out.old.items ++ (serve 0 self.now from (At shard epoch)).sends) }
     {
         let mark = self.last_epoch(shard);
-        answer(alloc, from, AT, mark, self.at(shard, epoch), out)
+        answer(alloc, from, Kind::At, mark, self.at(shard, epoch), out)
     }
 
     /// Stores a configuration of an epoch that is not stored, where it is the next one of its shard. Where its epoch is
@@ -147,14 +145,14 @@ impl ConfigService {
         config: &Config,
         out: &mut Vec<Outgoing>,
     ) -> Result<Handled, OutOfMemory>
-        ensures answer { IfOk result (λ h. h ≡ (with_notice from 13 0 (store nodes self.old from config.now)).answer) }
-        ensures kept { OnOk result (self.new ≡ (with_notice from 13 0 (store nodes self.old from config.now)).kept) }
-        ensures sends { OnOk result (out.new.items ≡ out.old.items ++ (with_notice from 13 0 (store nodes self.old from config.now)).sends) }
+        ensures answer { IfOk result (λ h. h ≡ (with_notice from (kind_number kinds.Cas) 0 (store nodes self.old from config.now)).answer) }
+        ensures kept { OnOk result (self.new ≡ (with_notice from (kind_number kinds.Cas) 0 (store nodes self.old from config.now)).kept) }
+        ensures sends { OnOk result (out.new.items ≡ out.old.items ++ (with_notice from (kind_number kinds.Cas) 0 (store nodes self.old from config.now)).sends) }
         ensures err { OnErr result (self.new ≡ self.old) }
     {
         if !is_next(self.last(config.shard()), config) {
             let handled = Handled::Held(self.last_epoch(config.shard()));
-            notify(handled, from, CAS, 0, out)?;
+            notify(handled, from, Kind::Cas.number(), 0, out)?;
             return Ok(handled);
         }
         let next = config.copy(alloc)?;
@@ -171,14 +169,14 @@ impl ConfigService {
 fn answer(
     alloc: Global,
     from: NodeId,
-    kind: u8,
+    kind: Kind,
     mark: Epoch,
     config: Option<&Config>,
     out: &mut Vec<Outgoing>,
 ) -> Result<Handled, OutOfMemory>
-    ensures answer { (configs : List Membership) → IfOk result (λ h. h ≡ (with_notice from kind 0 (answer_stored configs from mark (option_copied config.entry))).answer) }
-    ensures kept { (configs : List Membership) → OnOk result (configs ≡ (with_notice from kind 0 (answer_stored configs from mark (option_copied config.entry))).kept) }
-    ensures sends { (configs : List Membership) → OnOk result (out.new.items ≡ out.old.items ++ (with_notice from kind 0 (answer_stored configs from mark (option_copied config.entry))).sends) }
+    ensures answer { (configs : List Membership) → IfOk result (λ h. h ≡ (with_notice from (kind_number kind) 0 (answer_stored configs from mark (option_copied config.entry))).answer) }
+    ensures kept { (configs : List Membership) → OnOk result (configs ≡ (with_notice from (kind_number kind) 0 (answer_stored configs from mark (option_copied config.entry))).kept) }
+    ensures sends { (configs : List Membership) → OnOk result (out.new.items ≡ out.old.items ++ (with_notice from (kind_number kind) 0 (answer_stored configs from mark (option_copied config.entry))).sends) }
 {
     match config {
         Some(config) => {
@@ -186,7 +184,7 @@ fn answer(
             Ok(Handled::Acted)
         }
         None => {
-            notify(Handled::Held(mark), from, kind, 0, out)?;
+            notify(Handled::Held(mark), from, kind.number(), 0, out)?;
             Ok(Handled::Held(mark))
         }
     }

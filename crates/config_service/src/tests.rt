@@ -1,4 +1,4 @@
-//! Messages to the service as they stand in worked runs, and what it sends.
+//! Messages to the service as they stand in worked runs, what it sends, and what becomes of proposals.
 ghost use Rattle.std.specs.Prelude.{◌≡◌, IfOk};
 ghost use Rattle.config_service.specs.Firsts.{AreFirsts};
 
@@ -9,11 +9,12 @@ use std::test::Fail;
 use tcs_terms::{Config, Handled, NodeId};
 use wire_frame::{decode, encode};
 
-/// A frame from a node, and the frames that the service sends.
+/// A frame from a node, what it comes to, and the frames that the service sends.
 #[derive(Drop)]
 struct Row<'a> {
     from: NodeId,
     frame: &'a str,
+    answer: Handled,
     sends: &'a [(NodeId, &'a str)],
 }
 
@@ -34,7 +35,7 @@ fn serve_row(
     let message = decode(alloc, &hex::decode(alloc, row.frame)?)?;
     let mut out = Vec::new(alloc);
     let handled = service.serve(alloc, 3, row.from, &message, &mut out)?;
-    assert_eq!(rt; handled, Handled::Acted, "{}", row.frame);
+    assert_eq!(rt; handled, row.answer, "{}", row.frame);
     assert_eq!(rt; out.len(), row.sends.len(), "{}", row.frame);
     for (sent, (to, frame)) in out.iter().zip(row.sends) {
         assert_eq!(rt; sent.to, *to, "{frame}");
@@ -44,7 +45,8 @@ fn serve_row(
     Ok(())
 }
 
-/// Two nodes propose the next epoch: the first is stored, and both hear of it. The epoch before is still answered.
+/// Two nodes propose the next epoch: the first is stored, and both hear of it. An epoch that is not the next one is held
+/// back, and the epoch before is still answered.
 #[test]
 fn an_epoch_is_stored_once(rt: HostRuntime) -> Result<(), Fail> {
     let alloc = rt.alloc();
@@ -53,11 +55,13 @@ fn an_epoch_is_stored_once(rt: HostRuntime) -> Result<(), Fail> {
         Row {
             from: 2,
             frame: "0b01",
+            answer: Handled::Acted,
             sends: &[(2, "0e01000000010201020100")],
         },
         Row {
             from: 2,
             frame: "0d01000000020201030102",
+            answer: Handled::Acted,
             sends: &[
                 (2, "0e01000000020201030102"),
                 (1, "0a01000000020201030102"),
@@ -68,11 +72,19 @@ fn an_epoch_is_stored_once(rt: HostRuntime) -> Result<(), Fail> {
         Row {
             from: 3,
             frame: "0d01000000020201030103",
+            answer: Handled::Acted,
             sends: &[(3, "0e01000000020201030102")],
+        },
+        Row {
+            from: 3,
+            frame: "0d01000000040201030103",
+            answer: Handled::Held(2),
+            sends: &[(3, "100d0200000002")],
         },
         Row {
             from: 2,
             frame: "0c0100000001",
+            answer: Handled::Acted,
             sends: &[(2, "0e01000000010201020100")],
         },
     ];
@@ -82,5 +94,23 @@ fn an_epoch_is_stored_once(rt: HostRuntime) -> Result<(), Fail> {
     assert_eq!(rt; service.configs().len(), 2);
     assert_eq!(rt; service.last(1).map(|config| config.by()), Some(2));
     assert_eq!(rt; service.at(1, 1).map(|config| config.by()), Some(0));
+    Ok(())
+}
+
+/// Only the next epoch of a shard of the run is stored, and once.
+#[test]
+fn a_proposal_has_three_answers(rt: HostRuntime) -> Result<(), Fail> {
+    let alloc = rt.alloc();
+    let mut service = ConfigService::build(alloc, firsts(alloc)?)?;
+    for (shard, epoch, answer) in [
+        (1, 3, CasAnswer::Ahead(1)),
+        (1, 2, CasAnswer::Stored),
+        (1, 2, CasAnswer::Already),
+        (2, 1, CasAnswer::Ahead(0)),
+    ] {
+        let config = Config::build(shard, epoch, vec![in alloc; 1, 3]?, 1, 2)?;
+        assert_eq!(rt; service.cas(config)?, answer, "shard {shard}, epoch {epoch}");
+    }
+    assert_eq!(rt; service.configs().len(), 2);
     Ok(())
 }
