@@ -34,7 +34,7 @@ fn send_whole(
     out: &mut Vec<Outgoing>,
 ) -> Result<(), OutOfMemory>
     requires { AreRows rows.now }
-    ensures ok { OnOk result (out.new.items ≡ out.old.items ++ [to node (NewState config.now rows.now)]) }
+    ensures ok { OnOk result (out.new.items ≡ out.old.items ++ to node (NewState config.now rows.now) ∷ []) }
     ensures err { OnErr result (Begins out.old.items out.new.items) }
 {
     let message = whole_message(alloc, config, rows)?;
