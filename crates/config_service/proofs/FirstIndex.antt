@@ -41,7 +41,7 @@ placed_from all (c ∷ cs) place k (suc i) shard each first there at =
     rw apart (placed_from all cs (place + 1) (k + 1) i shard others (and_parts (c.epoch == 1) (list_all (λ x. x.epoch == 1) cs) first).1 on (omega arith))
 
 pub firsts_indexed : (cs : List Membership) → AreFirsts cs → IsIndex cs (first_index (length cs))
-firsts_indexed cs h = record { each = go; configs = h.configs } where
+firsts_indexed cs h = record { each = go; formed = h.formed } where
   go : (shard : ℕ) → IsPlaced cs shard (places_of (first_index (length cs)) shard)
   go zero =
       let none = none_of_lower zero 1 (length cs) cs h.one_each (omega arith) in

@@ -99,7 +99,7 @@ index_grows : (cs : List Membership) (c last : Membership) (index : List (List �
     → IsIndex (cs ++ c ∷ []) (slice_set index c.shard (places_of index c.shard ++ length cs ∷ []))
 index_grows cs c last index h lt e next one = record {
       each = λ shard. go shard (shard == c.shard) refl;
-      configs = All-push IsMembership cs c h.configs one;
+      formed = All-push IsMembership cs c h.formed one;
     } where
   w : List ℕ
   w = places_of index c.shard ++ length cs ∷ []

@@ -19,4 +19,4 @@ firsts_of_epoch_1 nodes (c ∷ cs) h =
 pub firsts_of_setup : (d : Deployment) → IsDeployment d → AreFirsts d.configs
 firsts_of_setup d h =
     let count : length d.configs ≡ d.shards = sym (length-map d.configs (λ c. c.shard)) ∙ ap length h.one_each ∙ length-range_with_len 1 d.shards in
-    record { one_each = rw count h.one_each; configs = h.configs; first = firsts_of_epoch_1 d.nodes d.configs h.first }
+    record { one_each = rw count h.one_each; formed = h.configs; first = firsts_of_epoch_1 d.nodes d.configs h.first }

@@ -33,7 +33,7 @@ pub record IsPlaced (configs : List Membership) (shard : ℕ) (places : List ℕ
 -- an index tells the places of each shard's configurations, which are well formed
 pub record IsIndex (configs : List Membership) (index : List (List ℕ)) : Type 0 where
   pub each : (shard : ℕ) → IsPlaced configs shard (places_of index shard)
-  pub configs : All IsMembership configs
+  pub formed : All IsMembership configs
 
 -- the index of n first configurations
 abbrev pub first_index : ℕ → List (List ℕ)

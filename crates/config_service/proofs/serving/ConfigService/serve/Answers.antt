@@ -22,7 +22,7 @@ held (Err e) before after out answer kept law = record {}
 
 pub returns-clause-range : goal.returns-clause-range
 returns-clause-range c = λ few range.
-    let stored = subst (λ (configs : List Membership). All IsMembership configs) c.self.view_is c.self.invariant.configs in
+    let stored = subst (λ (configs : List Membership). All IsMembership configs) c.self.view_is c.self.invariant.formed in
     always c.hear.result (serve-in_range c.args.nodes c.args.self.now c.args.from c.args.message.now few stored range).sends
 
 pub returns-clause-unchanged : goal.returns-clause-unchanged
