@@ -9,7 +9,7 @@ use Rattle.protocol.specs.Outcomes.{Out}
 use Rattle.protocol.specs.Service.{serve}
 use Rattle.protocol_laws.proofs.RangesWorld.{serve-in_range}
 use Rattle.protocol_laws.proofs.RefusedInputs.{serve-refused}
-use Rattle.config_service.proofs.serving.ConfigService.serve.Goals as goal
+use Rattle.config_service.proofs.service.ConfigService.serve.Goals as goal
 
 always : {T E P : Type 0} (r : Result T E) → P → OnOk r P
 always (Ok x) p = p
