@@ -1,0 +1,11 @@
+-- The rule of the replica, within the node.
+use Rattle.node_core.specs.Parts.{node_of}
+use Rattle.node_core.proofs.parts.Parts.state_piece.Goals as goal
+
+pub returns-clause-answer : goal.returns-clause-answer
+returns-clause-answer g c = let s = c.self.inside in
+    rw (← c.self.view_is) (c.state_piece.ensures.answer (node_of s.replica s.next s.coordinator.kept s.prober s.outcomes.entries))
+
+pub returns-clause-kept : goal.returns-clause-kept
+returns-clause-kept g c = let s = c.self.inside in
+    rw (← c.self.view_is) (c.state_piece.ensures.kept (node_of s.replica s.next s.coordinator.kept s.prober s.outcomes.entries))
