@@ -1,13 +1,8 @@
--- Open cases by transaction: what holds of each key, whatever becomes of the cases.
-use Rattle.std.proofs.Common.{◌≡◌, ℕ, suc, ◌+◌, Bool, true, false, cond, not, ◌&&◌, ◌||◌, List, [], ◌∷◌, ◌++◌, map, Option, None, Some, refl, arith}
-use Rattle.std.specs.Prelude.{◌==◌, nat_lt}
+-- Keys of a map: what holds of each, whatever becomes of the values.
+use Rattle.std.proofs.Common.{◌≡◌, Bool, true, cond, ◌&&◌, List, [], ◌∷◌, ◌++◌, map, false, refl}
 use Rattle.std.specs.List.{list_all}
-use Rattle.std.specs.Map.{lookup, set_value, remove_entry}
-use Rattle.std.proofs.lemmas.Bool.Decides.{nat_tests}
-use Rattle.tcs_terms.specs.declared.ids.TxId.{TxId}
-use Rattle.tcs_terms.specs.Logs.{same_txn}
+use Rattle.std.specs.Map.{set_value, remove_entry}
 use Rattle.tcs_terms.proofs.BoolLaws.{both, left_of, right_of}
-use Rattle.node_core.specs.Soundness.{is_given}
 
 module _ {K X : Type 0} (p : K → Bool) where
   abbrev pub each : List (K × X) → Bool
@@ -39,24 +34,3 @@ pub each_weaker : {K X : Type 0} (p q : K → Bool) → ((k : K) → p k ≡ tru
 each_weaker p q weaker [] h = refl
 each_weaker p q weaker (e ∷ es) h =
     both (q e.0) _ (weaker e.0 (left_of (p e.0) (list_all (λ d. p d.0) es) h)) (each_weaker p q weaker es (right_of (p e.0) (list_all (λ d. p d.0) es) h))
-
--- what was given stays so
-pub given_later : (me ahead : ℕ) (t : TxId) → is_given me ahead t ≡ true → is_given me (ahead + 1) t ≡ true
-given_later me ahead t h = go (t.home == me) h where
-  go : (b : Bool) → (not b || nat_lt t.seq ahead) ≡ true → (not b || nat_lt t.seq (ahead + 1)) ≡ true
-  go true h = grind (arith, nat_tests)
-  go false h = refl
-
--- the next number is given then
-pub given_now : (me ahead : ℕ) → is_given me (ahead + 1) (record { home = me; seq = ahead }) ≡ true
-given_now me ahead = grind (arith, nat_tests)
-
--- the next transaction has no case
-pub is_absent : {X : Type 0} (me ahead : ℕ) (es : List (TxId × X)) → list_all (λ e. is_given me ahead e.0) es ≡ true
-    → lookup (same_txn (record { home = me; seq = ahead })) es ≡ None
-is_absent me ahead [] h = refl
-is_absent me ahead (e ∷ es) h =
-    let other : same_txn (record { home = me; seq = ahead }) e.0 ≡ false = differs e.0 (left_of (is_given me ahead e.0) _ h) in
-    rw other (is_absent me ahead es (right_of (is_given me ahead e.0) _ h)) where
-      differs : (t : TxId) → is_given me ahead t ≡ true → same_txn (record { home = me; seq = ahead }) t ≡ false
-      differs t given = grind (arith, nat_tests)

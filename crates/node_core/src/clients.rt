@@ -1,21 +1,19 @@
 //! What a client asks of a node, but for transactions.
 ghost use Rattle.std.specs.Prelude.{◌≡◌, ◌++◌, length, IfOk, OnOk, option_copied};
-ghost use Rattle.tcs_terms.specs.declared.inputs.Input.TheVariants.{Move};
-ghost use Rattle.tcs_terms.specs.Events.{InputInRange};
 ghost use Rattle.tcs_terms.specs.Shards.{lies_in};
-ghost use Rattle.protocol.specs.ClientRules.{nudge, move, go_lower, read, ask};
+ghost use Rattle.protocol.specs.ClientRules.{nudge, read, ask};
 ghost use Rattle.protocol.specs.Versions.{value_or_empty};
-ghost use Rattle.node_core.specs.Soundness.{IsSound};
+ghost use Rattle.node_core.specs.Soundness.{IsKept};
 
 use crate::parts::Parts;
 use std::alloc::Global;
 use tcs_laws::VoteGuard;
 use tcs_terms::{
-    Handled, Message, Name, Note, OutOfMemory, Outgoing, ShardId, Value, Wanted, shard_of,
+    Handled, Message, Name, NodeId, Note, OutOfMemory, Outgoing, ShardId, Value, shard_of,
 };
 
 /// The configuration service, in a message's ends.
-const SERVICE: u8 = 0;
+const SERVICE: NodeId = 0;
 
 /// The value that a reading tells: the empty one where there is none.
 fn value_or_empty(alloc: Global, value: Option<&Value>) -> Result<Value, OutOfMemory>
@@ -47,34 +45,9 @@ impl<G: VoteGuard> Parts<G> {
         Ok(Handled::Acted)
     }
 
-    /// The node begins to move a shard.
-    pub(crate) fn begin_move(
-        &mut self,
-        shard: ShardId,
-        want: Wanted,
-        out: &mut Vec<Outgoing>,
-    ) -> Result<Handled, OutOfMemory>
-        requires { InputInRange (Move shard want) }
-        ensures answer { IfOk result (λ h. h ≡ (move self.old shard want).answer) }
-        ensures kept { OnOk result (self.new ≡ (move self.old shard want).kept) }
-        ensures sends { OnOk result (out.new.items ≡ out.old.items ++ (move self.old shard want).sends) }
-    {
-        self.prober.start_move(shard, want, out)
-    }
-
-    /// The node's prober goes down one epoch.
-    #[tactic(auto, unfolding(protocol::specs::ClientRules::go_lower))]
-    pub(crate) fn go_lower(&mut self, out: &mut Vec<Outgoing>) -> Result<Handled, OutOfMemory>
-        ensures answer { IfOk result (λ h. h ≡ (go_lower self.old).answer) }
-        ensures kept { OnOk result (self.new ≡ (go_lower self.old).kept) }
-        ensures sends { OnOk result (out.new.items ≡ out.old.items ++ (go_lower self.old).sends) }
-    {
-        self.prober.lower(out)
-    }
-
     /// Whether an object lies in the node's shard.
     fn has_object(&self, name: &Name) -> bool
-        requires { IsSound self.now }
+        requires { IsKept self.now }
         ensures { result ≡ lies_in (length self.now.coordinator.views) self.now.shard name.now }
     {
         shard_of(name.bytes(), self.coordinator.shards()) == self.replica.shard()
@@ -88,7 +61,7 @@ impl<G: VoteGuard> Parts<G> {
         name: Name,
         notes: &mut Vec<Note>,
     ) -> Result<Handled, OutOfMemory>
-        requires { IsSound self.now }
+        requires { IsKept self.now }
         ensures answer { IfOk result (λ h. h ≡ (read self.now name).answer) }
         ensures notes { OnOk result (notes.new.items ≡ notes.old.items ++ (read self.now name).notes) }
     {

@@ -29,7 +29,7 @@ impl<G: VoteGuard> Parts<G> {
         ensures sends { OnOk result (out.new.items ≡ out.old.items ++ (on_stored_config self.old config).sends) }
     {
         if !self.awaits(&config) {
-            return self.hear_change(config, out);
+            return self.coordinator.on_config(config, out);
         }
         self.coordinator.on_config(config.copy(alloc)?, out)?;
         let me = self.replica.name();

@@ -2,7 +2,6 @@
 //! after Bravo and Gotsman (PODC 2019).
 #![tactic(auto)]
 
-mod cases;
 mod clients;
 mod configurations;
 mod hearing;
@@ -10,7 +9,6 @@ mod inputs;
 mod nodes;
 mod outcomes;
 mod parts;
-mod shards;
 #[cfg(test)]
 mod tests;
 mod transactions;

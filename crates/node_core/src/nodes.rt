@@ -7,6 +7,7 @@ ghost use Rattle.tcs_terms.specs.declared.inputs.Result1.TheVariants as results;
 ghost use Rattle.tcs_terms.specs.Events.{InputInRange};
 ghost use Rattle.tcs_terms.specs.Logs.{same_txn};
 ghost use Rattle.tcs_terms.specs.Places.{IsMembership, is_node, is_shard};
+ghost use Rattle.tcs_terms.specs.Versions.{version_number};
 ghost use Rattle.protocol.specs.Coordination.{case_of};
 ghost use Rattle.protocol.specs.FoundNothing.{has_acted};
 ghost use Rattle.protocol.specs.Table.{step};
@@ -20,7 +21,7 @@ use std::marker::Model;
 use tcs_laws::VoteGuard;
 use tcs_terms::{
     Config, Decision, Epoch, Handled, Input, NodeId, Note, OutOfMemory, Outgoing, Row, ShardId,
-    TxId,
+    TxId, Version,
 };
 
 /// A node, whose votes are given by a guard `G`. Seen as the version of the protocol that it follows, what it keeps in
@@ -29,7 +30,7 @@ use tcs_terms::{
 #[derive(Drop)]
 pub struct Node<G: VoteGuard> {
     alloc: Global,
-    version: u8,
+    version: Version,
     parts: Parts<G>,
     spent: bool,
 }
@@ -37,20 +38,21 @@ pub struct Node<G: VoteGuard> {
 impl<G: VoteGuard> Model for Node<G> {
     ghost use Rattle.node_core.specs.Soundness.{IsKeptUnless};
     ghost use Rattle.node_core.specs.State.{NodeState};
+    ghost use Rattle.tcs_terms.specs.Versions.{version_number};
 
     ghost Value = { NodeState };
 
-    ghost view = { λ n. record { version = n.version; kept = n.parts; spent = n.spent } };
+    ghost view = { λ n. record { version = version_number n.version; kept = n.parts; spent = n.spent } };
 
     ghost invariant = { λ n. IsKeptUnless n.spent n.parts };
 }
 
 impl<G: VoteGuard> Node<G> {
-    /// The node of that name (1 to 64), of that shard, as it begins under a version of the protocol (1 or 2), given the
+    /// The node of that name (1 to 64), of that shard, as it begins under a version of the protocol, given the
     /// first configuration of each shard.
     pub fn first(
         alloc: Global,
-        version: u8,
+        version: Version,
         name: NodeId,
         shard: ShardId,
         configs: Vec<Config>,
@@ -60,7 +62,7 @@ impl<G: VoteGuard> Node<G> {
         requires views { AreViews configs.items }
         requires configs { All IsMembership configs.items }
         requires first { IsTrue (list_all (λ c. c.epoch == 1) configs.items) }
-        ensures { IfOk result (λ node. node ≡ record { version = version; kept = first_node configs.items name shard; spent = false }) }
+        ensures { IfOk result (λ node. node ≡ record { version = version_number version; kept = first_node configs.items name shard; spent = false }) }
     {
         Ok(Node {
             alloc,

@@ -9,16 +9,6 @@ use tcs_laws::VoteGuard;
 use tcs_terms::limits::MAX_SEQUENCE;
 use tcs_terms::{Handled, Mark, Note, OutOfMemory, Outgoing, Payload, Row, TxId};
 
-/// Whether a row's outcome is not known.
-fn is_undecided(mark: Mark) -> bool
-    ensures { result ≡ is_undecided mark }
-{
-    match mark {
-        Mark::Undecided => true,
-        Mark::Committed | Mark::Aborted => false,
-    }
-}
-
 impl<G: VoteGuard> Parts<G> {
     /// A new transaction with this payload, while numbers are left.
     #[tactic(auto, unfolding(protocol::specs::ClientRules::certify, protocol::specs::Choices::when))]
@@ -59,7 +49,7 @@ impl<G: VoteGuard> Parts<G> {
     fn may_take(&self, row: &Row, txn: TxId) -> bool
         ensures { result ≡ (is_undecided row.now.mark && is_none (case_of self.now.coordinator txn) && may_exist self.now txn) }
     {
-        is_undecided(row.mark) && !self.coordinator.has_case(txn) && self.may_exist(txn)
+        matches!(row.mark, Mark::Undecided) && !self.coordinator.has_case(txn) && self.may_exist(txn)
     }
 
     /// A transaction that a row holds undecided, and of which the node has no case, is taken over.
