@@ -1,6 +1,7 @@
-pub mod Coordinating
+pub mod Beginning
+pub mod Clients
+pub mod Given
+pub mod Hearing
+pub mod Keeping
 pub mod Keys
-pub mod Orderly
-pub mod Standing
-pub mod Stepping
 pub mod Storing

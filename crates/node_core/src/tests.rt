@@ -10,7 +10,7 @@ use std::process::Abort;
 use std::test::Fail;
 use tcs_laws::ScanGuard;
 use tcs_terms::{
-    Config, Decision, Handled, Input, Name, NodeId, Note, Outgoing, TxId, read_payload,
+    Config, Decision, Handled, Input, Name, NodeId, Note, Outgoing, TxId, Version, read_payload,
 };
 use wire_frame::{decode, encode};
 
@@ -33,7 +33,13 @@ fn begin(alloc: Global, name: NodeId, members: &[NodeId]) -> Result<Scanning, Fa
     requires { IsTrue (is_node name) }
 {
     let config = Config::build(1, 1, Vec::from_slice(alloc, members)?, 1, 0)?;
-    Ok(Scanning::first(alloc, 1, name, 1, vec![in alloc; config]?)?)
+    Ok(Scanning::first(
+        alloc,
+        Version::One,
+        name,
+        1,
+        vec![in alloc; config]?,
+    )?)
 }
 
 /// The node hears a message.
@@ -112,7 +118,7 @@ fn a_committed_value_is_read(rt: HostRuntime) -> Result<(), Fail> {
 }
 
 /// What node 2 of a shard that node 1 leads answers to messages that nobody sent, each list at its start.
-const FORGED: [(NodeId, &[(&str, Handled)]); 8] = [
+const FORGED: [(NodeId, &[(&str, Handled)]); 9] = [
     (1, &[(PREPARE, Handled::Held(1))]),
     (1, &[("0600000001", Handled::Stale(2))]),
     (
@@ -120,6 +126,14 @@ const FORGED: [(NodeId, &[(&str, Handled)]); 8] = [
         &[
             ("0600000005", Handled::Acted),
             ("0600000004", Handled::Stale(5)),
+        ],
+    ),
+    // Fenced in state epoch 1, under the promise of 2, it is told to lead in 3.
+    (
+        1,
+        &[
+            ("0600000002", Handled::Acted),
+            ("0801000000030201020201", Handled::Held(2)),
         ],
     ),
     (1, &[("09010000000102010201000000", Handled::Stale(2))]),

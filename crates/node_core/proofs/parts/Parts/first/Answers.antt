@@ -2,7 +2,7 @@ use Rattle.std.proofs.Common.{◌≡◌, ◌∙◌, ap}
 use Rattle.std.specs.Option.{option_copied}
 use Rattle.protocol.specs.Views.{view_of}
 use Rattle.protocol.specs.World.{first_node}
-use Rattle.node_core.proofs.Stepping.{first_of_shard}
+use Rattle.node_core.proofs.Beginning.{first_of_shard}
 use Rattle.node_core.proofs.parts.Parts.first.Goals as goal
 
 pub first-requires : goal.first-requires

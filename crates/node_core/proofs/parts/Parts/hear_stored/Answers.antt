@@ -4,13 +4,13 @@ use Rattle.node_core.proofs.Storing.{unawaited, awaited}
 use Rattle.node_core.proofs.parts.Parts.hear_stored.Goals as goal
 
 pub returns-then-not-awaits-clause-answer : goal.returns-then-not-awaits-clause-answer
-returns-then-not-awaits-clause-answer g c = rw (unawaited c.args.self.now c.args.config (sym c.awaits.ensures ∙ c.if-not-awaits.true)).answer c.hear_change.ensures.answer
+returns-then-not-awaits-clause-answer g c = rw (unawaited c.args.self.now c.args.config (sym c.awaits.ensures ∙ c.if-not-awaits.true)).answer c.on_config.ensures.answer
 
 pub returns-then-not-awaits-clause-kept : goal.returns-then-not-awaits-clause-kept
-returns-then-not-awaits-clause-kept g c = rw (unawaited c.args.self.now c.args.config (sym c.awaits.ensures ∙ c.if-not-awaits.true)).kept c.hear_change.ensures.kept
+returns-then-not-awaits-clause-kept g c = rw (unawaited c.args.self.now c.args.config (sym c.awaits.ensures ∙ c.if-not-awaits.true)).kept c.on_config.ensures.kept
 
 pub returns-then-not-awaits-clause-sends : goal.returns-then-not-awaits-clause-sends
-returns-then-not-awaits-clause-sends g c = rw (unawaited c.args.self.now c.args.config (sym c.awaits.ensures ∙ c.if-not-awaits.true)).sends c.hear_change.ensures.sends
+returns-then-not-awaits-clause-sends g c = rw (unawaited c.args.self.now c.args.config (sym c.awaits.ensures ∙ c.if-not-awaits.true)).sends c.on_config.ensures.sends
 
 pub returns-clause-answer : goal.returns-clause-answer
 returns-clause-answer g c = sym (awaited c.args.self.now c.args.config (sym c.awaits.ensures ∙ c.if-not-awaits.false)).answer

@@ -1,9 +1,12 @@
 -- What the rules of clients leave as it was.
-use Rattle.std.proofs.Common.{◌≡◌, List, [], ◌++◌, Result, Ok, Err, OnOk, refl, sym, append-nil}
-use Rattle.protocol.specs.ClientRules.{nudge, move, ask}
+use Rattle.std.proofs.Common.{◌≡◌, List, [], ◌++◌, Result, Ok, Err, OnOk, refl, sym, ap, append-nil}
+use Rattle.std.proofs.lemmas.Result.{on_ok_weaker}
+use Rattle.protocol.specs.ClientRules.{nudge, move, go_lower, ask}
 use Rattle.protocol.specs.Probing.{start_move}
 use Rattle.protocol.specs.Table.{step}
-use Rattle.node_core.proofs.Stepping.{next_absent, lower_silent, read_kept, read_unsent}
+use Rattle.node_core.specs.Parts.{node_of}
+use Rattle.node_core.proofs.Given.{next_absent}
+use Rattle.node_core.proofs.Clients.{lower_silent, read_kept, read_unsent}
 use Rattle.node_core.proofs.parts.Parts.take_input.Goals as goal
 
 on_ok : {T E P : Type 0} (r : Result T E) → P → OnOk r P
@@ -14,7 +17,7 @@ none_more : {X : Type 0} (xs more : List X) → more ≡ [] → xs ≡ xs ++ mor
 none_more xs more none = rw none (sym (append-nil xs))
 
 pub certify-requires : goal.certify-requires
-certify-requires g c = next_absent c.args.self.now c.requires.sound
+certify-requires g c = next_absent c.args.self.now c.requires.kept.given
 
 pub returns-in-Nudge-clause-kept : goal.returns-in-Nudge-clause-kept
 unfolding step nudge
@@ -24,13 +27,27 @@ pub returns-in-Nudge-clause-notes : goal.returns-in-Nudge-clause-notes
 unfolding step nudge
 returns-in-Nudge-clause-notes g c = rw c.in-Nudge.is (on_ok c.nudge.result (none_more _ _ refl))
 
+pub returns-in-Move-clause-answer : goal.returns-in-Move-clause-answer
+unfolding step move
+returns-in-Move-clause-answer g c = rw c.in-Move.is c.start_move.ensures.answer
+
+pub returns-in-Move-clause-kept : goal.returns-in-Move-clause-kept
+unfolding step move
+returns-in-Move-clause-kept g c = let s = c.self.inside in
+    rw (c.in-Move.is, ← c.self.view_is)
+    (on_ok_weaker c.start_move.result (λ kept. ap (λ p. node_of s.replica s.next s.coordinator.kept p s.outcomes.entries) kept) c.start_move.ensures.kept)
+
+pub returns-in-Move-clause-sends : goal.returns-in-Move-clause-sends
+unfolding step move
+returns-in-Move-clause-sends g c = rw c.in-Move.is c.start_move.ensures.sends
+
 pub returns-in-Move-clause-notes : goal.returns-in-Move-clause-notes
 unfolding step move start_move
-returns-in-Move-clause-notes g c = rw c.in-Move.is (on_ok c.begin_move.result (none_more _ _ refl))
+returns-in-Move-clause-notes g c = rw c.in-Move.is (on_ok c.start_move.result (none_more _ _ refl))
 
 pub returns-in-Lower-clause-notes : goal.returns-in-Lower-clause-notes
 unfolding step
-returns-in-Lower-clause-notes g c = rw c.in-Lower.is (on_ok c.go_lower.result (none_more _ _ (lower_silent c.args.self.now)))
+returns-in-Lower-clause-notes g c = rw c.in-Lower.is (on_ok c.lower.result (none_more _ _ (lower_silent c.args.self.now)))
 
 pub returns-in-ReadName-clause-kept : goal.returns-in-ReadName-clause-kept
 unfolding step
