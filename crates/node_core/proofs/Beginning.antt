@@ -14,10 +14,12 @@ use Rattle.node_core.specs.Soundness.{IsKept}
 -- the first configuration of a shard has epoch 1
 pub first_of_shard : (configs : List Membership) (shard : ℕ) → list_all (λ c. c.epoch == 1) configs ≡ true → is_first (view_of configs shard) ≡ true
 first_of_shard [] shard h = refl
-first_of_shard (v ∷ vs) shard h = go (v.shard == shard) (and_parts (v.epoch == 1) (list_all (λ c. c.epoch == 1) vs) h) where
-  go : (b : Bool) → (v.epoch == 1 ≡ true) × (list_all (λ c. c.epoch == 1) vs ≡ true) → is_first (cond b (Some v) (view_of vs shard)) ≡ true
-  go true parts = parts.0
-  go false parts = first_of_shard vs shard parts.1
+first_of_shard (v ∷ vs) shard h =
+    let parts = and_parts (v.epoch == 1) (list_all (λ c. c.epoch == 1) vs) h in
+    go (v.shard == shard) parts.0 (first_of_shard vs shard parts.1) where
+      go : (b : Bool) → (v.epoch == 1) ≡ true → is_first (view_of vs shard) ≡ true → is_first (cond b (Some v) (view_of vs shard)) ≡ true
+      go true here rest = here
+      go false here rest = rest
 
 pub first_kept : (configs : List Membership) (name shard : ℕ) → IsTrue (is_node name) → IsTrue (is_shard shard) → AreViews configs → All IsMembership configs
     → IsKept (first_node configs name shard)

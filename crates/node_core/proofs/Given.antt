@@ -32,7 +32,7 @@ given_now name next = grind (arith, nat_tests)
 module _ (p : TxId → Bool) where
   goes_on_each : (c : Coordinator) (txn : TxId) (case : Case) (sends : List Outgoing) (out : Out Coordinator)
       → each p c.cases ≡ true → GoesOn c txn case sends out → each p out.kept.cases ≡ true
-  goes_on_each c txn case sends out h (Waiting open) = each_set p (same_txn txn) c.cases case h
+  goes_on_each c txn case sends out h (Waiting incomplete) = each_set p (same_txn txn) c.cases case h
   goes_on_each c txn case sends out h (Decides complete) = each_removed p (same_txn txn) c.cases h
 
   changes_each : (c : Coordinator) (config : Membership) → each p c.cases ≡ true → each p (change_view c config).cases ≡ true

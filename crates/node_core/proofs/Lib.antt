@@ -1,7 +1,7 @@
 pub mod Beginning
-pub mod Clients
+pub mod ClientRules
 pub mod Given
-pub mod Hearing
+pub mod Heard
 pub mod Keeping
 pub mod Keys
 pub mod Storing

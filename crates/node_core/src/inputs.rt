@@ -12,7 +12,7 @@ use tcs_terms::{Handled, Input, Note, OutOfMemory, Outgoing, Version};
 
 impl<G: VoteGuard> Parts<G> {
     /// What the node does with an input.
-    #[tactic(auto, unfolding(protocol::specs::Table::step, protocol::specs::ClientRules::move, protocol::specs::ClientRules::go_lower))]
+    #[tactic(auto, unfolding(protocol::specs::Table::step, protocol::specs::ClientRules::go_lower))]
     pub(crate) fn take_input(
         &mut self,
         alloc: Global,

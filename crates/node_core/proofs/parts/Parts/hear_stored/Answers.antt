@@ -1,16 +1,23 @@
-use Rattle.std.proofs.Common.{◌≡◌, refl, sym, ◌∙◌, append_assoc}
+-- STORED, by whether the prober awaits it.
+use Rattle.std.proofs.Common.{◌≡◌, refl, sym, ◌∙◌, ap, append_assoc}
+use Rattle.std.proofs.lemmas.Result.{on_ok_weaker}
 use Rattle.protocol.specs.Coordination.{on_config}
+use Rattle.node_core.specs.Parts.{node_of}
 use Rattle.node_core.proofs.Storing.{unawaited, awaited}
 use Rattle.node_core.proofs.parts.Parts.hear_stored.Goals as goal
 
 pub returns-then-not-awaits-clause-answer : goal.returns-then-not-awaits-clause-answer
-returns-then-not-awaits-clause-answer g c = rw (unawaited c.args.self.now c.args.config (sym c.awaits.ensures ∙ c.if-not-awaits.true)).answer c.on_config.ensures.answer
+returns-then-not-awaits-clause-answer g c =
+    rw ((unawaited c.args.self.now c.args.config (sym c.awaits.ensures ∙ c.if-not-awaits.true)).answer, ← c.self.view_is) c.on_config.ensures.answer
 
 pub returns-then-not-awaits-clause-kept : goal.returns-then-not-awaits-clause-kept
-returns-then-not-awaits-clause-kept g c = rw (unawaited c.args.self.now c.args.config (sym c.awaits.ensures ∙ c.if-not-awaits.true)).kept c.on_config.ensures.kept
+returns-then-not-awaits-clause-kept g c = let s = c.self.inside in
+    rw ((unawaited c.args.self.now c.args.config (sym c.awaits.ensures ∙ c.if-not-awaits.true)).kept, ← c.self.view_is)
+    (on_ok_weaker c.on_config.result (λ kept. ap (λ k. node_of s.replica s.next k s.prober s.outcomes.entries) kept) c.on_config.ensures.kept)
 
 pub returns-then-not-awaits-clause-sends : goal.returns-then-not-awaits-clause-sends
-returns-then-not-awaits-clause-sends g c = rw (unawaited c.args.self.now c.args.config (sym c.awaits.ensures ∙ c.if-not-awaits.true)).sends c.on_config.ensures.sends
+returns-then-not-awaits-clause-sends g c =
+    rw ((unawaited c.args.self.now c.args.config (sym c.awaits.ensures ∙ c.if-not-awaits.true)).sends, ← c.self.view_is) c.on_config.ensures.sends
 
 pub returns-clause-answer : goal.returns-clause-answer
 returns-clause-answer g c = sym (awaited c.args.self.now c.args.config (sym c.awaits.ensures ∙ c.if-not-awaits.false)).answer

@@ -6,7 +6,7 @@ use Rattle.protocol.specs.Probing.{start_move}
 use Rattle.protocol.specs.Table.{step}
 use Rattle.node_core.specs.Parts.{node_of}
 use Rattle.node_core.proofs.Given.{next_absent}
-use Rattle.node_core.proofs.Clients.{lower_silent, read_kept, read_unsent}
+use Rattle.node_core.proofs.ClientRules.{lower_silent, read_kept, read_unsent}
 use Rattle.node_core.proofs.parts.Parts.take_input.Goals as goal
 
 on_ok : {T E P : Type 0} (r : Result T E) → P → OnOk r P

@@ -27,12 +27,12 @@ use Rattle.protocol_laws.proofs.RefusedInputs.{step-refused}
 use Rattle.node_core.specs.Hearing.{hear}
 
 -- `receive` is `hear`, with the notice in front of what it sends
-record IsHeard (tests : Tests) (version : ℕ) (node : NodeRecord) (from : ℕ) (message : Message) : Type 0 where
-  answer : (receive tests version node from message).answer ≡ (hear tests version node from message).answer
-  kept : (receive tests version node from message).kept ≡ (hear tests version node from message).kept
-  sends : (receive tests version node from message).sends
+pub record IsHeard (tests : Tests) (version : ℕ) (node : NodeRecord) (from : ℕ) (message : Message) : Type 0 where
+  pub answer : (receive tests version node from message).answer ≡ (hear tests version node from message).answer
+  pub kept : (receive tests version node from message).kept ≡ (hear tests version node from message).kept
+  pub sends : (receive tests version node from message).sends
       ≡ notices_to from message (hear tests version node from message).answer node.promised ++ (hear tests version node from message).sends
-  notes : (receive tests version node from message).notes ≡ (hear tests version node from message).notes
+  pub notes : (receive tests version node from message).notes ≡ (hear tests version node from message).notes
 
 pub is_heard : (tests : Tests) (version : ℕ) (node : NodeRecord) (from : ℕ) (message : Message) → IsHeard tests version node from message
 unfolding receive with_notice
@@ -56,7 +56,8 @@ is_heard tests version node from (StatePiece config number pieces rows) = record
 
 -- where nothing more is sent than stands in front, nothing is sent
 none_behind : {X : Type 0} (front back : List X) → front ++ back ≡ front → back ≡ []
-none_behind front back h = grind (arith)
+none_behind [] back h = h
+none_behind (x ∷ front) back h = none_behind front back (cc h)
 
 receive_refused : (tests : Tests) (version : ℕ) (node : NodeRecord) (from : ℕ) (message : Message) → has_acted (results.Node (receive tests version node from message).answer) ≡ false
     → (receive tests version node from message).sends ≡ notices_to from message (receive tests version node from message).answer node.promised
