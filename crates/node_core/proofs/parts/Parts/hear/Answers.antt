@@ -1,5 +1,7 @@
 -- Each part of the node does its rule; most rules note nothing, and some send nothing.
-use Rattle.std.proofs.Common.{◌≡◌, List, [], ◌++◌, Result, Ok, Err, OnOk, refl, sym, append-nil}
+use Rattle.std.proofs.Common.{◌≡◌, List, [], ◌++◌, Result, Ok, Err, OnOk, ◌≤◌, refl, sym, subst, append-nil}
+use Rattle.tcs_terms.specs.declared.limits.TheConstants.{MAX_NODES}
+use Rattle.protocol.specs.Records.{NodeRecord}
 use Rattle.node_core.specs.Parts.{node_of}
 use Rattle.node_core.proofs.Heard.{hear_silent, outcome_unsent, decision_unsent, new_state_unsent, state_piece_unsent}
 use Rattle.node_core.proofs.Keeping.{name_fits}
@@ -86,7 +88,8 @@ returns-in-StatePiece-clause-kept g c = let s = c.self-in-StatePiece.inside in
 -- ---- the prober
 
 pub on_probe_ack-requires : goal.on_probe_ack-requires
-on_probe_ack-requires g c = rw (c.name-me.ensures, c.self-in-ProbeAck.view_is) (name_fits c.args.self.now c.requires.kept)
+on_probe_ack-requires g c =
+    rw c.name-me.ensures (subst (λ (n : NodeRecord). n.name ≤ MAX_NODES) (sym c.self-in-ProbeAck.view_is) (name_fits c.args.self.now c.requires.kept))
 
 -- ---- what is not noted, and not sent
 
