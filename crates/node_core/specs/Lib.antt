@@ -1,0 +1,4 @@
+pub mod Hearing
+pub mod Parts
+pub mod Soundness
+pub mod State
