@@ -4,6 +4,8 @@ pub mod FirstBadLines
 pub mod CursorLemmas
 pub mod EventReadings
 pub mod EventSpellings
+pub mod EveryText
+pub mod HeaderLines
 pub mod HeaderReadings
 pub mod HeaderSpellings
 pub mod LineLemmas

@@ -1,5 +1,5 @@
 //! The laws of the text of a schedule: what is printed is read as it was, and what is read is what would be printed.
-ghost use Rattle.std.specs.Prelude.{◌≡◌, ◌≤◌, ◌+◌, ℕ, List, [], ◌∷◌, ◌++◌, length, Ok, Err};
+ghost use Rattle.std.specs.Prelude.{◌≡◌, ◌⊎◌, ◌≤◌, ◌+◌, ℕ, List, [], ◌∷◌, ◌++◌, length, Ok, Err};
 ghost use Rattle.std.specs.List.{AllByRecursion};
 ghost use Rattle.tcs_terms.specs.declared.inputs.Event.{Event};
 ghost use Rattle.tcs_terms.specs.declared.words.Reason.{Reason};
@@ -13,7 +13,7 @@ ghost use Rattle.schedule_text.specs.declared.reader.LineItem.{LineItem};
 ghost use Rattle.schedule_text.specs.Lines.{IsLine};
 ghost use Rattle.schedule_text.specs.Text.{schedule_lines};
 ghost use Rattle.schedule_text.specs.Schedules.{Progress, at_start, line_reading};
-ghost use Rattle.schedule_text.specs.Bytes.{IsText, Taken, FirstBad, events_on};
+ghost use Rattle.schedule_text.specs.Bytes.{IsText, Taken, FirstBad, HasText, HasFirstBad, events_on};
 ghost use Rattle.schedule_text.specs.Whole.{IsSchedule, IsRead, Begins, reads, schedule_items, at_end};
 
 /// The lines of a schedule are read as its setup and its events, in order.
@@ -71,6 +71,11 @@ pub fn no_text_has_a_bad_line()
 /// Bytes have one first bad line at most, which is bad for one reason.
 pub fn one_first_bad_line()
     ensures { (bytes : List ℕ) (m n : ℕ) (x y : Reason) (is js : List LineItem) → FirstBad bytes m x is → FirstBad bytes n y js → (m ≡ n) × (x ≡ y) × (is ≡ js) }
+{}
+
+/// Bytes are the text of a schedule, or have a first bad line; and never both.
+pub fn every_text_or_bad_line()
+    ensures { (bytes : List ℕ) → HasText bytes ⊎ HasFirstBad bytes }
 {}
 
 /// The events on lines that are read may stand in a schedule of the setup: each fits it, and hands in a payload.
