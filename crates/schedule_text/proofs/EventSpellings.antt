@@ -23,7 +23,6 @@ use Rattle.schedule_text.specs.declared.verbs.Verb.{Verb}
 use Rattle.schedule_text.specs.declared.verbs.Verb.TheVariants as verbs
 use Rattle.tcs_terms.specs.Texts.{txn_text}
 use Rattle.tcs_terms.specs.Runs.{IsInput, IsEvent}
-use Rattle.schedule_text.specs.Words.{is_for}
 use Rattle.schedule_text.specs.Events.{alone_at, certify_at, take_at, move_at, read_at, ask_at, input_at, call_at, delivery_at, stop_at, event_at, names_only}
 use Rattle.schedule_text.proofs.CursorLemmas.{name_at_again}
 use Rattle.schedule_text.proofs.EventReadings.{call_word, verb_word, ascend_from_zero}

@@ -1,8 +1,8 @@
 -- All bytes are the text of a schedule, or have a first bad line.
-use Rattle.std.proofs.Common.{◌≡◌, ◌⊎◌, inl, inr, ℕ, zero, suc, ◌+◌, ◌<◌, ◌≤◌, Bool, true, false, List, [], ◌∷◌, ◌++◌, length, Result, Ok, Err, refl, sym, ◌∙◌, ap, subst, arith}
+use Rattle.std.proofs.Common.{◌≡◌, ◌⊎◌, inl, inr, ℕ, zero, suc, ◌+◌, ◌<◌, ◌≤◌, Bool, true, false, List, [], ◌∷◌, ◌++◌, length, Result, Ok, Err, refl, ap, subst, arith}
 use Rattle.std.specs.Prelude.{◌==◌}
 use Rattle.std.proofs.lemmas.Bool.{eqb-true}
-use Rattle.std.proofs.lemmas.List.{append-nil, length-append}
+use Rattle.std.proofs.lemmas.List.{length-append}
 use Rattle.tcs_terms.specs.declared.words.Reason.{Reason}
 use Rattle.tcs_terms.specs.Setups.{Deployment}
 use Rattle.schedule_text.specs.declared.limits.TheConstants.{LINE_LIMIT}
@@ -12,7 +12,7 @@ use Rattle.schedule_text.specs.declared.places.Place.{Place}
 use Rattle.schedule_text.specs.declared.places.Place.TheVariants as places
 use Rattle.schedule_text.specs.declared.reader.LineItem.{LineItem}
 use Rattle.schedule_text.specs.Bytes.{Taken, IsNext, HasText, HasFirstBad, events_on}
-use Rattle.schedule_text.specs.Lines.{has_feed, line_feed, IsLine}
+use Rattle.schedule_text.specs.Lines.{has_feed, line_feed}
 use Rattle.schedule_text.specs.Schedules.{Progress, at_start, line_reading}
 use Rattle.schedule_text.proofs.BytesRead.{none_taken, one_taken}
 use Rattle.schedule_text.proofs.FirstBadLines.{taken_to_the_end}

@@ -15,7 +15,7 @@ use Rattle.tcs_terms.proofs.BoolLaws.{left_of, right_of, not_true, passed}
 use Rattle.tcs_terms.proofs.SetupLaws.{no_fault_of_a_deployment}
 use Rattle.schedule_text.specs.declared.places.Place.{Place}
 use Rattle.schedule_text.specs.declared.places.Place.TheVariants as places
-use Rattle.schedule_text.specs.Text.{version_line, certifier_line, shards_line, node_line, first_lines, node_lines, config_line}
+use Rattle.schedule_text.specs.Text.{first_lines, node_lines, config_line}
 use Rattle.schedule_text.specs.Header.{Head, head_at, no_parts}
 use Rattle.schedule_text.proofs.EventSpellings.{small_nodes}
 use Rattle.schedule_text.proofs.HeaderReadings.{in_header, head_lines}

@@ -16,6 +16,8 @@ pub mod NumberReadings
 pub mod PrintLemmas
 pub mod ScheduleReadings
 pub mod ScheduleSpellings
+pub mod ScriptReadings
+pub mod ScriptSpellings
 pub mod ShortLines
 pub mod Spaces
 pub mod Steps

@@ -77,7 +77,10 @@ fn digits_of(byte: u8) -> [u8; 2]
     ensures { result ≡ encode_lower (byte ∷ []) }
 {
     let digits = b"0123456789abcdef";
-    [digits[usize::from(byte / 16)], digits[usize::from(byte % 16)]]
+    [
+        digits[usize::from(byte / 16)],
+        digits[usize::from(byte % 16)],
+    ]
 }
 
 fn put_byte(out: &mut Vec<u8>, byte: u8) -> Result<(), OutOfMemory>
