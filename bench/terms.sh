@@ -3,7 +3,8 @@
 # reads and 16 writes with names of 32 bytes and values of 64 bytes). Run it at the top of the repository.
 set -e
 cd "$(dirname "$0")/../crates/terms_bench"
-rounds=${1:-1000000}
+rounds=${1:-10000000}
 rt run -- "$rounds" 2>&1 | awk -v n="$rounds" '
-    / us, / { printf "%s %.2f million copies/s, %.2f million parts/s that are the whole, %.2f million parts/s in one of two shards\n",
-        $1, n / $3, n / $8, n / $15 }'
+    function rate(us) { return us > 0 ? sprintf("%d", n * 1000000 / us) : "too many" }
+    / us, / { printf "%s %s copies/s, %s restrictions/s to one shard of one, %s restrictions/s to one of two\n",
+        $1, rate($3), rate($8), rate($15) }'

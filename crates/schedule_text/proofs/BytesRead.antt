@@ -20,7 +20,8 @@ use Rattle.schedule_text.specs.Whole.{reads, schedule_items, header_items}
 use Rattle.schedule_text.specs.Bytes.{Taken, IsNext, events_on, setups_on}
 use Rattle.schedule_text.proofs.ScheduleReadings.{Stands, EventsStand, reads_take, start_stands, lines_at, items_at, headed, event_items}
 use Rattle.schedule_text.proofs.HeaderReadings.{head_lines, HeadStands}
-use Rattle.schedule_text.proofs.ScheduleSpellings.{reads_one, reads_append, firsts_of}
+use Rattle.schedule_text.proofs.HeaderLines.{firsts_of}
+use Rattle.schedule_text.proofs.ScheduleSpellings.{reads_one, reads_append}
 
 -- ---- line by line
 

@@ -25,7 +25,7 @@ use Rattle.schedule_text.specs.declared.verbs.Verb.TheVariants as verbs
 use Rattle.tcs_terms.specs.Texts.{txn_text}
 use Rattle.tcs_terms.specs.Runs.{IsInput, IsEvent}
 use Rattle.schedule_text.specs.Words.{is_for, end_at, between_at, caller_at, name_at, payload_words_at, txn_at, nodes_at}
-use Rattle.schedule_text.specs.Events.{call_verb, verb_or, verb_of, alone_at, certify_at, take_at, move_at, read_at, ask_at, input_at, call_at, delivery_at, stop_at, event_at}
+use Rattle.schedule_text.specs.Events.{call_verb, verb_or, verb_of, alone_at, certify_at, take_at, move_at, read_at, ask_at, input_at, call_at, delivery_at, stop_at, event_at, names_only}
 use Rattle.schedule_text.proofs.LineWords.{call_words, event_words}
 use Rattle.schedule_text.proofs.Steps.{bind_ok, reasoned_ok, ok_is}
 use Rattle.schedule_text.proofs.NumberReadings.{end_takes, between_takes, caller_takes}
@@ -208,22 +208,24 @@ input_takes d calls.Ask words i known h = ask_takes d words i h
 
 -- ---- events that are read
 
-pub record EventTaken (d : Deployment) (v : Verb) (words : List (List ℕ)) (e : Event) : Type 0 where
+pub record EventTaken (only : Option ℕ) (d : Deployment) (v : Verb) (words : List (List ℕ)) (e : Event) : Type 0 where
   pub spelled : verb_word v ∷ words ≡ event_words e
   pub fits : event_fits d e ≡ true
   pub is : IsEvent e
+  pub own : names_only only e ≡ true
 
-pub event_takes : (only : Option ℕ) (d : Deployment) (v : Verb) (words : List (List ℕ)) (e : Event) → ((d.version == 1) || (d.version == 2)) ≡ true → event_at only d v words ≡ Ok e → EventTaken d v words e
+pub event_takes : (only : Option ℕ) (d : Deployment) (v : Verb) (words : List (List ℕ)) (e : Event) → ((d.version == 1) || (d.version == 2)) ≡ true → event_at only d v words ≡ Ok e → EventTaken only d v words e
 unfolding call_at delivery_at stop_at
 event_takes only d (verbs.Call v) words e known h =
     let a = bind_ok (caller_at only d.nodes words) _ e h in
     let b = bind_ok (input_at d v a.0.1) _ e a.2 in
     let t = caller_takes only d.nodes words a.0 a.1 in
     let u = input_takes d v a.0.1 b.0 known b.1 in
-    subst (EventTaken d (verbs.Call v) words) (ok_is (events.Call a.0.0 b.0) e b.2) (record {
+    subst (EventTaken only d (verbs.Call v) words) (ok_is (events.Call a.0.0 b.0) e b.2) (record {
       spelled = ap (λ (ws : List (List ℕ)). call_word v ∷ ws) t.word ∙ u.spelled a.0.0;
       fits = both (has_node d.nodes a.0.0) (input_fits d b.0) (left_of (has_node d.nodes a.0.0) (is_for only a.0.0) t.passes) u.fits;
       is = u.is;
+      own = right_of (has_node d.nodes a.0.0) (is_for only a.0.0) t.passes;
     })
 event_takes only d verbs.Deliver words e known h =
     let a = bind_ok (between_at 1 (2 ^ 32 - 1) words) _ e h in
@@ -232,18 +234,20 @@ event_takes only d verbs.Deliver words e known h =
     let none = end_takes a.0.1 b.0 b.1 in
     let low = left_of (nat_le 1 a.0.0) (nat_le a.0.0 (2 ^ 32 - 1)) t.passes in
     let high = right_of (nat_le 1 a.0.0) (nat_le a.0.0 (2 ^ 32 - 1)) t.passes in
-    subst (EventTaken d verbs.Deliver words) (ok_is (events.DeliverNumber a.0.0) e b.2) (record {
+    subst (EventTaken only d verbs.Deliver words) (ok_is (events.DeliverNumber a.0.0) e b.2) (record {
       spelled = ap (λ (ws : List (List ℕ)). codes "deliver" ∷ ws) (t.word ∙ ap (λ (ws : List (List ℕ)). decimal a.0.0 ∷ ws) none);
       fits = low;
       is = grind (arith, nat_tests);
+      own = refl;
     })
 event_takes only d verbs.Stop words e known h =
     let a = bind_ok (caller_at only d.nodes words) _ e h in
     let b = bind_ok (end_at a.0.1) _ e a.2 in
     let t = caller_takes only d.nodes words a.0 a.1 in
     let none = end_takes a.0.1 b.0 b.1 in
-    subst (EventTaken d verbs.Stop words) (ok_is (events.Stop a.0.0) e b.2) (record {
+    subst (EventTaken only d verbs.Stop words) (ok_is (events.Stop a.0.0) e b.2) (record {
       spelled = ap (λ (ws : List (List ℕ)). codes "stop" ∷ ws) (t.word ∙ ap (λ (ws : List (List ℕ)). decimal a.0.0 ∷ ws) none);
       fits = left_of (has_node d.nodes a.0.0) (is_for only a.0.0) t.passes;
       is = tt;
+      own = right_of (has_node d.nodes a.0.0) (is_for only a.0.0) t.passes;
     })

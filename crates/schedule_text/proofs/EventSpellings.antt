@@ -23,8 +23,7 @@ use Rattle.schedule_text.specs.declared.verbs.Verb.{Verb}
 use Rattle.schedule_text.specs.declared.verbs.Verb.TheVariants as verbs
 use Rattle.tcs_terms.specs.Texts.{txn_text}
 use Rattle.tcs_terms.specs.Runs.{IsInput, IsEvent}
-use Rattle.schedule_text.specs.Words.{is_for}
-use Rattle.schedule_text.specs.Events.{alone_at, certify_at, take_at, move_at, read_at, ask_at, input_at, call_at, delivery_at, stop_at, event_at}
+use Rattle.schedule_text.specs.Events.{alone_at, certify_at, take_at, move_at, read_at, ask_at, input_at, call_at, delivery_at, stop_at, event_at, names_only}
 use Rattle.schedule_text.proofs.CursorLemmas.{name_at_again}
 use Rattle.schedule_text.proofs.EventReadings.{call_word, verb_word, ascend_from_zero}
 use Rattle.schedule_text.proofs.LineWords.{call_words, event_words, IsSpellable, IsSpellableEvent}
@@ -133,12 +132,6 @@ pub record EventAgain (only : Option ℕ) (d : Deployment) (e : Event) : Type 0 
   pub rest : List (List ℕ)
   pub spelled : event_words e ≡ verb_word verb ∷ rest
   pub read : event_at only d verb rest ≡ Ok e
-
--- the node that an event is for
-abbrev pub names_only : Option ℕ → Event → Bool
-names_only only (events.Call node input) = is_for only node
-names_only only (events.DeliverNumber number) = true
-names_only only (events.Stop node) = is_for only node
 
 pub event_again : (only : Option ℕ) (d : Deployment) (e : Event) → Small d → IsEvent e → event_fits d e ≡ true → names_only only e ≡ true → EventAgain only d e
 unfolding call_at delivery_at stop_at

@@ -267,7 +267,7 @@ begun_takes d words x h =
     subst (λ (y : Deployment × List (List ℕ)). (words ≡ codes "events" ∷ y.1) × (d ≡ y.0) × (setup_fault d ≡ None)) (ok_is (b.0, a.0.1) x b.2)
     (fixed_takes (codes "events") words a.0 a.1, m.1, none_is (setup_fault d) m.0)
 
-setup_is_whole : (d : Deployment) → setup_lines d ≡ head_lines places.Parts d ++ codes "events" ∷ []
+pub setup_is_whole : (d : Deployment) → setup_lines d ≡ head_lines places.Parts d ++ codes "events" ∷ []
 unfolding setup_lines
 setup_is_whole d =
     ap (λ (ls : List (List ℕ)). first_lines d ++ ls) (sym (append_assoc (node_lines 1 d.nodes) (map config_line d.configs) (codes "events" ∷ [])))

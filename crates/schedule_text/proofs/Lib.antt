@@ -4,6 +4,8 @@ pub mod FirstBadLines
 pub mod CursorLemmas
 pub mod EventReadings
 pub mod EventSpellings
+pub mod EveryText
+pub mod HeaderLines
 pub mod HeaderReadings
 pub mod HeaderSpellings
 pub mod LineLemmas
@@ -14,6 +16,8 @@ pub mod NumberReadings
 pub mod PrintLemmas
 pub mod ScheduleReadings
 pub mod ScheduleSpellings
+pub mod ScriptReadings
+pub mod ScriptSpellings
 pub mod ShortLines
 pub mod Spaces
 pub mod Steps

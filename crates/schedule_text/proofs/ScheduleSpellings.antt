@@ -1,21 +1,13 @@
 -- The lines of a schedule are read as they stand, and a line that is refused continues no schedule.
-use Rattle.std.proofs.Common.{◌≡◌, ℕ, suc, ◌+◌, ◌^◌, ◌<◌, ◌≤◌, Bool, true, false, not, List, [], ◌∷◌, ◌++◌, length, map, All, Option, None, Ok, Err, refl, sym, ◌∙◌, ap, append_assoc, arith, codes}
-use Rattle.std.specs.Prelude.{nat_le, nat_lt, ◌==◌, ◌||◌, ◌&&◌}
-use Rattle.std.specs.List.{list_all, AllByRecursion}
-use Rattle.std.proofs.lemmas.Bool.{eqb-true}
+use Rattle.std.proofs.Common.{◌≡◌, ℕ, ◌+◌, ◌<◌, ◌≤◌, true, false, List, [], ◌∷◌, ◌++◌, length, map, Option, None, Ok, Err, refl, sym, ◌∙◌, ap, append_assoc, arith, codes}
+use Rattle.std.specs.Prelude.{nat_lt}
+use Rattle.std.specs.List.{AllByRecursion}
 use Rattle.std.proofs.lemmas.Bool.Decides.{nat_tests}
-use Rattle.std.proofs.lemmas.List.{append-nil, length-append, map-append}
 use Rattle.tcs_terms.specs.declared.inputs.Event.{Event}
 use Rattle.tcs_terms.specs.declared.inputs.Event.TheVariants.{Call, DeliverNumber, Stop}
-use Rattle.tcs_terms.specs.declared.limits.TheConstants.{MAX_SHARDS, MAX_NODES}
 use Rattle.tcs_terms.specs.declared.words.Reason.{Reason}
-use Rattle.tcs_terms.specs.Places.{Membership, IsMembership}
-use Rattle.tcs_terms.specs.SetupFaults.{may_be_nodes, firsts_from}
-use Rattle.tcs_terms.specs.Setups.{Deployment, IsDeployment, is_node_of, is_first}
+use Rattle.tcs_terms.specs.Setups.{Deployment, IsDeployment}
 use Rattle.tcs_terms.specs.Words.{words_of, begins}
-use Rattle.tcs_terms.specs.declared.faults.BadSetup.TheVariants as faults
-use Rattle.tcs_terms.proofs.BoolLaws.{left_of, right_of, not_true, passed}
-use Rattle.tcs_terms.proofs.SetupLaws.{no_fault_of_a_deployment}
 use Rattle.schedule_text.specs.declared.limits.TheConstants.{EVENT_LIMIT}
 use Rattle.schedule_text.specs.declared.lines.Got.TheVariants.{Whole}
 use Rattle.schedule_text.specs.declared.places.Place.{Place}
@@ -25,17 +17,18 @@ use Rattle.schedule_text.specs.declared.reader.LineItem.TheVariants as items
 use Rattle.schedule_text.specs.declared.verbs.CallVerb.TheVariants as calls
 use Rattle.schedule_text.specs.declared.verbs.Verb.{Verb}
 use Rattle.schedule_text.specs.declared.verbs.Verb.TheVariants as verbs
-use Rattle.schedule_text.specs.Text.{version_line, certifier_line, shards_line, node_line, first_lines, node_lines, config_line, setup_lines, event_line, schedule_lines}
+use Rattle.schedule_text.specs.Text.{setup_lines, event_line, schedule_lines}
 use Rattle.schedule_text.specs.Header.{Head, head_at, no_parts}
+use Rattle.schedule_text.specs.Events.{names_only}
 use Rattle.schedule_text.specs.Schedules.{Progress, at_start, head_item, header_line_at, end_line_at, counted_event_at, event_line_at, line_reading}
 use Rattle.schedule_text.specs.Whole.{IsSchedule, reads, header_items, schedule_items, at_end}
 use Rattle.tcs_terms.specs.Runs.{MayStand}
 use Rattle.schedule_text.proofs.EventReadings.{verb_word, names_verb}
-use Rattle.schedule_text.proofs.EventSpellings.{Small, spellable, event_again, names_only, small_nodes}
-use Rattle.schedule_text.proofs.HeaderReadings.{in_header}
-use Rattle.schedule_text.proofs.HeaderSpellings.{ConfigFits, version_again, certifier_again, shards_again, node_again, config_again, events_again, among_is}
-use Rattle.schedule_text.proofs.LineWords.{words_of_version, words_of_certifier, words_of_shards, words_of_node, words_of_config, words_of_event}
-use Rattle.schedule_text.proofs.NodeReadings.{small_node}
+use Rattle.schedule_text.proofs.EventSpellings.{Small, spellable, event_again}
+use Rattle.schedule_text.proofs.HeaderLines.{standing, Heads, header_heads}
+use Rattle.schedule_text.proofs.HeaderReadings.{in_header, head_lines, setup_is_whole}
+use Rattle.schedule_text.proofs.HeaderSpellings.{events_again}
+use Rattle.schedule_text.proofs.LineWords.{words_of_event}
 use Rattle.schedule_text.proofs.ScheduleReadings.{at, headed, event_items, small_setup}
 use Rattle.schedule_text.proofs.Steps.{bind_ok, ok_is, not_both}
 
@@ -72,99 +65,12 @@ line_read places.Parts d count line words x here is h = rw (is, h) refl
 line_read places.Events d count line words x here is h = absurd cc
 line_read places.Ended d count line words x here is h = absurd cc
 
--- the parts of the setup before its nodes
-abbrev begun_setup : Deployment → Deployment
-begun_setup d = record { version = d.version; rule = d.rule; shards = d.shards; nodes = []; configs = [] }
-
-known_version : (n : ℕ) → ((n == 1) || (n == 2)) ≡ true → (1 ≤ n) × (n ≤ 2)
-known_version n h = (grind (arith, nat_tests), grind (arith, nat_tests))
-
-first_lines_read : (d : Deployment) → IsDeployment d → reads at_start (first_lines d) ≡ Ok (headed (first_lines d), at places.Parts (begun_setup d) 0)
-first_lines_read d is =
-    let some = is.some_shards in
-    let few = is.few_shards in
-    let known = known_version d.version is.version in
-    let versioned : Deployment = record no_parts { version = d.version } in
-    let ruled : Deployment = record versioned { rule = d.rule } in
-    reads_one at_start (version_line d.version) items.Header (at places.Certifier versioned 0) (certifier_line d.rule ∷ shards_line d.shards ∷ []) _ _
-    (line_read places.Version no_parts 0 (version_line d.version) _ _ refl (words_of_version d.version (omega (arith, known.1))) (version_again None no_parts d.version known.0 known.1))
-    (reads_one (at places.Certifier versioned 0) (certifier_line d.rule) items.Header (at places.Shards ruled 0) (shards_line d.shards ∷ []) _ _
-    (line_read places.Certifier versioned 0 (certifier_line d.rule) _ _ refl (words_of_certifier d.rule) (certifier_again None versioned d.rule))
-    (reads_one (at places.Shards ruled 0) (shards_line d.shards) items.Header (at places.Parts (begun_setup d) 0) [] _ _
-    (line_read places.Shards ruled 0 (shards_line d.shards) _ _ refl (words_of_shards d.shards (omega arith)) (shards_again None ruled d.shards some few))
-    refl))
-
-abbrev is_shard_of : ℕ → ℕ → Bool
-is_shard_of shards s = nat_le 1 s && nat_le s shards
-
-nodes_read : (ss : List ℕ) (d : Deployment) (count n : ℕ) → d.configs ≡ [] → n ≡ length d.nodes + 1 → length d.nodes + length ss ≤ MAX_NODES → list_all (is_shard_of d.shards) ss ≡ true → d.shards < 2 ^ 64
-    → reads (at places.Parts d count) (node_lines n ss) ≡ Ok (headed (node_lines n ss), at places.Parts (record d { nodes = d.nodes ++ ss }) count)
-nodes_read [] d count n none is room each small = ap (λ (ns : List ℕ). Ok ([], at places.Parts (record d { nodes = ns }) count)) (sym (append-nil d.nodes))
-nodes_read (s ∷ ss) d count n none is room each small =
-    let fits = left_of (is_shard_of d.shards s) (list_all (is_shard_of d.shards) ss) each in
-    let low : 1 ≤ s = grind (arith, nat_tests) in
-    let high : s ≤ d.shards = grind (arith, nat_tests) in
-    let next : Deployment = record d { nodes = d.nodes ++ s ∷ [] } in
-    let many : length (d.nodes ++ s ∷ []) ≡ length d.nodes + 1 = length-append d.nodes (s ∷ []) in
-    let others = nodes_read ss next count (n + 1) none (omega arith) (omega arith) (right_of (is_shard_of d.shards s) (list_all (is_shard_of d.shards) ss) each) small in
-    let joined : ◌≡◌ {A = List ℕ} ((d.nodes ++ s ∷ []) ++ ss) (d.nodes ++ s ∷ ss) = append_assoc d.nodes (s ∷ []) ss in
-    reads_one (at places.Parts d count) (node_line n s) items.Header (at places.Parts next count) (node_lines (n + 1) ss) (headed (node_lines (n + 1) ss)) _
-    (line_read places.Parts d count (node_line n s) _ _ refl (words_of_node n s (omega arith) (omega arith)) (node_again None d n s none is (omega arith) low high small))
-    (others ∙ ap (λ (ns : List ℕ). Ok (headed (node_lines (n + 1) ss), at places.Parts (record d { nodes = ns }) count)) joined)
-
--- ---- configurations
-
--- the setup has room for these configurations
-record Configs (d : Deployment) (cs : List Membership) : Type 0 where
-  each : AllByRecursion IsMembership cs
-  firsts : firsts_from d.nodes (length d.configs + 1) cs ≡ true
-  room : length d.configs + length cs ≤ d.shards
-  some : 1 ≤ length d.nodes
-  few : length d.nodes ≤ MAX_NODES
-  shards : d.shards ≤ MAX_SHARDS
-
-config_read : (d : Deployment) (count : ℕ) (c : Membership) → ConfigFits d c
-    → line_reading (at places.Parts d count) Whole (config_line c) ≡ Ok (items.Header, at places.Parts (record d { configs = d.configs ++ c ∷ [] }) count)
-config_read d count c fits =
-    let few = fits.few in
-    let shards = fits.shards in
-    let within = fits.within in
-    let each = right_of ((c.epoch == 1) && (c.by == 0)) (list_all (is_node_of d.nodes c.shard) c.members) fits.first in
-    let leads = among_is d.nodes c.shard c.members c.leader each fits.is.leads in
-    let leader = small_node d.nodes c.leader (omega arith) (left_of _ _ leads) in
-    line_read places.Parts d count (config_line c) _ _ refl (words_of_config c (omega arith) leader (small_nodes d.nodes c.shard c.members (omega arith) each)) (config_again None d c fits)
-
-configs_read : (cs : List Membership) (d : Deployment) (count : ℕ) → Configs d cs
-    → reads (at places.Parts d count) (map config_line cs) ≡ Ok (headed (map config_line cs), at places.Parts (record d { configs = d.configs ++ cs }) count)
-configs_read [] d count h = ap (λ (cs : List Membership). Ok ([], at places.Parts (record d { configs = cs }) count)) (sym (append-nil d.configs))
-configs_read (c ∷ cs) d count h =
-    let room = h.room in
-    let numbered = left_of (c.shard == length d.configs + 1) (is_first d.nodes c && firsts_from d.nodes (length d.configs + 1 + 1) cs) h.firsts in
-    let others = right_of (c.shard == length d.configs + 1) (is_first d.nodes c && firsts_from d.nodes (length d.configs + 1 + 1) cs) h.firsts in
-    let number = eqb-true c.shard (length d.configs + 1) numbered in
-    let next : Deployment = record d { configs = d.configs ++ c ∷ [] } in
-    let many : length (d.configs ++ c ∷ []) ≡ length d.configs + 1 = length-append d.configs (c ∷ []) in
-    let fits : ConfigFits d c = record {
-      is = h.each.0;
-      next = number;
-      within = omega arith;
-      first = left_of (is_first d.nodes c) (firsts_from d.nodes (length d.configs + 1 + 1) cs) others;
-      few = h.few;
-      some = h.some;
-      shards = h.shards;
-    } in
-    let rest : Configs next cs = record {
-      each = h.each.1;
-      firsts = rw many (right_of (is_first d.nodes c) (firsts_from d.nodes (length d.configs + 1 + 1) cs) others);
-      room = omega arith;
-      some = h.some;
-      few = h.few;
-      shards = h.shards;
-    } in
-    let joined : ◌≡◌ {A = List Membership} ((d.configs ++ c ∷ []) ++ cs) (d.configs ++ c ∷ cs) = append_assoc d.configs (c ∷ []) cs in
-    reads_one (at places.Parts d count) (config_line c) items.Header (at places.Parts next count) (map config_line cs) (headed (map config_line cs)) _
-    (config_read d count c fits)
-    (configs_read cs next count rest ∙ ap (λ (ds : List Membership). Ok (headed (map config_line cs), at places.Parts (record d { configs = ds }) count)) joined)
+-- lines that are read as those of a header are the header's lines of a schedule
+headed_read : (lines : List (List ℕ)) (h k : Head) (count : ℕ) → Heads None h lines k → reads (record { head = h; count = count }) lines ≡ Ok (headed lines, record { head = k; count = count })
+headed_read [] h k count p = ap (λ (m : Head). Ok ([], record { head = m; count = count })) p
+headed_read (line ∷ lines) h k count p =
+    reads_one (record { head = h; count = count }) line items.Header (record { head = p.0; count = count }) lines (headed lines) _
+    (line_read h.place h.setup count line (words_of line) (None, p.0) p.1 refl p.2) (headed_read lines p.0 k count p.3)
 
 -- ---- events
 
@@ -208,54 +114,13 @@ end_read d count = refl
 
 -- ---- the whole text
 
--- an indexed fact of each, and the same by recursion
-each_of : {X : Type 0} (P : X → Type 0) (xs : List X) → All P xs → AllByRecursion P xs
-each_of P [] h = tt
-each_of P (x ∷ xs) h = (h 0 x (omega arith), each_of P xs (λ k d lt. h (suc k) d (omega arith)))
-
-abbrev with_nodes : Deployment → Deployment
-with_nodes d = record { version = d.version; rule = d.rule; shards = d.shards; nodes = d.nodes; configs = [] }
-
-pub firsts_of : (d : Deployment) → IsDeployment d → (length d.configs ≡ d.shards) × (firsts_from d.nodes 1 d.configs ≡ true)
-firsts_of d is =
-    let some_shards = is.some_shards in
-    let few_shards = is.few_shards in
-    let some_nodes = is.some_nodes in
-    let few_nodes = is.few_nodes in
-    let none = no_fault_of_a_deployment d is in
-    let a = passed (not ((d.version == 1) || (d.version == 2))) _ _ none in
-    let b = passed (not (nat_le 1 d.shards && nat_le d.shards MAX_SHARDS)) _ _ a.1 in
-    let c = passed (not (may_be_nodes d.shards d.nodes)) _ _ b.1 in
-    let e = passed (not ((length d.configs == d.shards) && firsts_from d.nodes 1 d.configs)) faults.Configs None c.1 in
-    let both_hold = not_true ((length d.configs == d.shards) && firsts_from d.nodes 1 d.configs) e.0 in
-    (eqb-true _ _ (left_of (length d.configs == d.shards) (firsts_from d.nodes 1 d.configs) both_hold), right_of (length d.configs == d.shards) (firsts_from d.nodes 1 d.configs) both_hold)
-
-setup_configs : (d : Deployment) → IsDeployment d → Configs (with_nodes d) d.configs
-setup_configs d is =
-    let firsts = firsts_of d is in
-    record { each = each_of IsMembership d.configs is.configs; firsts = firsts.1; room = omega (arith, firsts.0); some = is.some_nodes; few = is.few_nodes; shards = is.few_shards }
-
 setup_read : (d : Deployment) → IsDeployment d → reads at_start (setup_lines d) ≡ Ok (header_items d ++ items.Begun d ∷ [], at places.Events d 0)
-unfolding setup_lines
 setup_read d is =
-    let few = is.few_nodes in
-    let shards = is.few_shards in
     let last : reads (at places.Parts d 0) (codes "events" ∷ []) ≡ Ok (items.Begun d ∷ [], at places.Events d 0) =
     reads_one (at places.Parts d 0) (codes "events") (items.Begun d) (at places.Events d 0) [] [] _ (line_read places.Parts d 0 (codes "events") _ _ refl refl (events_again None d is refl)) refl in
-    let configs = reads_append (map config_line d.configs) (codes "events" ∷ []) (at places.Parts (with_nodes d) 0) (at places.Parts d 0) (headed (map config_line d.configs)) (items.Begun d ∷ []) (at places.Events d 0)
-    (configs_read d.configs (with_nodes d) 0 (setup_configs d is)) last in
-    let nodes = reads_append (node_lines 1 d.nodes) (map config_line d.configs ++ codes "events" ∷ []) (at places.Parts (begun_setup d) 0) (at places.Parts (with_nodes d) 0) (headed (node_lines 1 d.nodes))
-    (headed (map config_line d.configs) ++ items.Begun d ∷ []) (at places.Events d 0)
-    (nodes_read d.nodes (begun_setup d) 0 1 refl refl (omega arith) is.nodes (omega arith)) configs in
-    let whole = reads_append (first_lines d) (node_lines 1 d.nodes ++ (map config_line d.configs ++ codes "events" ∷ [])) at_start (at places.Parts (begun_setup d) 0) (headed (first_lines d))
-    (headed (node_lines 1 d.nodes) ++ (headed (map config_line d.configs) ++ items.Begun d ∷ [])) (at places.Events d 0) (first_lines_read d is) nodes in
-    let H = λ (line : List ℕ). items.Header in
-    let same : headed (first_lines d) ++ (headed (node_lines 1 d.nodes) ++ (headed (map config_line d.configs) ++ items.Begun d ∷ [])) ≡ header_items d ++ items.Begun d ∷ [] =
-    ap (λ (is : List LineItem). headed (first_lines d) ++ is) (sym (append_assoc (headed (node_lines 1 d.nodes)) (headed (map config_line d.configs)) (items.Begun d ∷ []))
-    ∙ ap (λ (is : List LineItem). is ++ items.Begun d ∷ []) (sym (map-append H (node_lines 1 d.nodes) (map config_line d.configs))))
-    ∙ sym (append_assoc (headed (first_lines d)) (headed (node_lines 1 d.nodes ++ map config_line d.configs)) (items.Begun d ∷ []))
-    ∙ ap (λ (is : List LineItem). is ++ items.Begun d ∷ []) (sym (map-append H (first_lines d) (node_lines 1 d.nodes ++ map config_line d.configs))) in
-    whole ∙ ap (λ (is : List LineItem). Ok (is, at places.Events d 0)) same
+    ap (reads at_start) (setup_is_whole d)
+    ∙ reads_append (head_lines places.Parts d) (codes "events" ∷ []) at_start (at places.Parts d 0) (header_items d) (items.Begun d ∷ []) (at places.Events d 0)
+    (headed_read (head_lines places.Parts d) (standing places.Version no_parts) (standing places.Parts d) 0 (header_heads None d is)) last
 
 -- the lines of a schedule are read as its setup and its events
 pub schedule_read : (d : Deployment) (es : List Event) → IsSchedule d es → reads at_start (schedule_lines d es) ≡ Ok (schedule_items d es, at_end d (length es))

@@ -68,3 +68,18 @@ pub record FirstBad (bytes : List ℕ) (number : ℕ) (reason : Reason) (is : Li
   pub rest : List ℕ
   pub next : IsNext behind got line rest
   pub refused : line_reading progress got line ≡ Err reason
+
+-- ---- any bytes
+
+-- the bytes are the text of a schedule
+pub record HasText (bytes : List ℕ) : Type 0 where
+  pub setup : Deployment
+  pub events : List Event
+  pub is : IsText bytes setup events
+
+-- the bytes have a first bad line
+pub record HasFirstBad (bytes : List ℕ) : Type 0 where
+  pub number : ℕ
+  pub reason : Reason
+  pub items : List LineItem
+  pub is : FirstBad bytes number reason items

@@ -1,5 +1,5 @@
 -- How the line of an event is read.
-use Rattle.std.specs.Prelude.{ℕ, ◌-◌, ◌^◌, if◌then◌else◌, List, codes, Option, Some, None, Result, Ok}
+use Rattle.std.specs.Prelude.{ℕ, ◌-◌, ◌^◌, Bool, true, if◌then◌else◌, List, codes, Option, Some, None, Result, Ok}
 use Rattle.tcs_terms.specs.declared.inputs.Input.{Input}
 use Rattle.tcs_terms.specs.declared.inputs.Input.TheVariants as inputs
 use Rattle.tcs_terms.specs.declared.inputs.Event.{Event}
@@ -12,7 +12,7 @@ use Rattle.schedule_text.specs.declared.verbs.CallVerb.{CallVerb}
 use Rattle.schedule_text.specs.declared.verbs.CallVerb.TheVariants as calls
 use Rattle.schedule_text.specs.declared.verbs.Verb.{Verb}
 use Rattle.schedule_text.specs.declared.verbs.Verb.TheVariants as verbs
-use Rattle.schedule_text.specs.Words.{◌>>=◌, end_at, between_at, caller_at, name_at, payload_words_at, txn_at, nodes_at}
+use Rattle.schedule_text.specs.Words.{◌>>=◌, is_for, end_at, between_at, caller_at, name_at, payload_words_at, txn_at, nodes_at}
 
 -- ---- first words
 
@@ -112,3 +112,9 @@ abbrev pub event_at : Option ℕ → Deployment → Verb → List (List ℕ) →
 event_at only d (verbs.Call call) words = call_at only d call words
 event_at only d verbs.Deliver words = delivery_at words
 event_at only d verbs.Stop words = stop_at only d words
+
+-- whether an event is at this node, if one is said; a delivery is at none
+abbrev pub names_only : Option ℕ → Event → Bool
+names_only only (events.Call node input) = is_for only node
+names_only only (events.DeliverNumber number) = true
+names_only only (events.Stop node) = is_for only node

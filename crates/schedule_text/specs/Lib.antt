@@ -4,7 +4,9 @@ pub mod Cursor
 pub mod Events
 pub mod Header
 pub mod Lines
+pub mod Printable
 pub mod Schedules
+pub mod ScriptText
 pub mod Scripts
 pub mod Text
 pub mod Whole

@@ -1,5 +1,5 @@
 //! The laws of the text of a schedule: what is printed is read as it was, and what is read is what would be printed.
-ghost use Rattle.std.specs.Prelude.{◌≡◌, ◌≤◌, ◌+◌, ℕ, List, [], ◌∷◌, ◌++◌, length, Ok, Err};
+ghost use Rattle.std.specs.Prelude.{◌≡◌, ◌⊎◌, ◌≤◌, ◌+◌, ℕ, List, [], ◌∷◌, ◌++◌, length, Ok, Err};
 ghost use Rattle.std.specs.List.{AllByRecursion};
 ghost use Rattle.tcs_terms.specs.declared.inputs.Event.{Event};
 ghost use Rattle.tcs_terms.specs.declared.words.Reason.{Reason};
@@ -10,10 +10,14 @@ ghost use Rattle.schedule_text.specs.declared.limits.TheConstants.{EVENT_LIMIT};
 ghost use Rattle.schedule_text.specs.declared.lines.Got.TheVariants.{Whole};
 ghost use Rattle.schedule_text.specs.declared.places.Place.TheVariants.{Events, Ended};
 ghost use Rattle.schedule_text.specs.declared.reader.LineItem.{LineItem};
+ghost use Rattle.schedule_text.specs.declared.script.ScriptForm.{ScriptForm};
+ghost use Rattle.schedule_text.specs.declared.script.ScriptItem.{ScriptItem};
 ghost use Rattle.schedule_text.specs.Lines.{IsLine};
 ghost use Rattle.schedule_text.specs.Text.{schedule_lines};
 ghost use Rattle.schedule_text.specs.Schedules.{Progress, at_start, line_reading};
-ghost use Rattle.schedule_text.specs.Bytes.{IsText, Taken, FirstBad, events_on};
+ghost use Rattle.schedule_text.specs.Bytes.{IsText, Taken, FirstBad, HasText, HasFirstBad, events_on};
+ghost use Rattle.schedule_text.specs.Scripts.{ScriptProgress, script_start};
+ghost use Rattle.schedule_text.specs.ScriptText.{ScriptStep, script_lines, IsScript, script_reads, script_items, script_at_end, IsScriptRead};
 ghost use Rattle.schedule_text.specs.Whole.{IsSchedule, IsRead, Begins, reads, schedule_items, at_end};
 
 /// The lines of a schedule are read as its setup and its events, in order.
@@ -73,6 +77,11 @@ pub fn one_first_bad_line()
     ensures { (bytes : List ℕ) (m n : ℕ) (x y : Reason) (is js : List LineItem) → FirstBad bytes m x is → FirstBad bytes n y js → (m ≡ n) × (x ≡ y) × (is ≡ js) }
 {}
 
+/// Bytes are the text of a schedule, or have a first bad line; and never both.
+pub fn every_text_or_bad_line()
+    ensures { (bytes : List ℕ) → HasText bytes ⊎ HasFirstBad bytes }
+{}
+
 /// The events on lines that are read may stand in a schedule of the setup: each fits it, and hands in a payload.
 pub fn what_is_read_may_stand()
     ensures { (lines : List (List ℕ)) (is : List LineItem) (p : Progress) → reads at_start lines ≡ Ok (is, p) → AllByRecursion (MayStand p.head.setup) (events_on is) }
@@ -81,4 +90,20 @@ pub fn what_is_read_may_stand()
 /// A header, its events and the line `end` are no more lines than these.
 pub fn few_lines_are_read()
     ensures { (lines : List (List ℕ)) (is : List LineItem) (p : Progress) → reads at_start lines ≡ Ok (is, p) → length lines ≤ 5 + MAX_NODES + MAX_SHARDS + EVENT_LIMIT }
+{}
+
+/// The lines of a script are read as its setup, its events and its turns, in order.
+pub fn a_script_is_read()
+    ensures { (form : ScriptForm) (d : Deployment) (steps : List ScriptStep) → IsScript form d steps
+        → script_reads (script_start form) (script_lines d steps) ≡ Ok (script_items d steps, script_at_end form d steps) }
+{}
+
+/// Lines that a reader of scripts takes to the end are those of a script, with what was read.
+pub fn what_is_read_is_a_script()
+    ensures { (form : ScriptForm) (lines : List (List ℕ)) (is : List ScriptItem) (p : ScriptProgress) → script_reads (script_start form) lines ≡ Ok (is, p) → p.head.place ≡ Ended → IsScriptRead form p lines is }
+{}
+
+/// No two scripts for one purpose have the same lines.
+pub fn one_script()
+    ensures { (form : ScriptForm) (d e : Deployment) (ss us : List ScriptStep) → IsScript form d ss → IsScript form e us → script_lines d ss ≡ script_lines e us → (d ≡ e) × (ss ≡ us) }
 {}

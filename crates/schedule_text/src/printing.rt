@@ -1,9 +1,11 @@
 //! The printers of a schedule: each appends lines to a buffer.
-ghost use Rattle.std.specs.Prelude.{◌≡◌, ◌≤◌, ◌++◌, ◌∷◌, [], length, codes, decimal, map, OnOk, OnErr};
+ghost use Rattle.std.specs.Prelude.{◌≡◌, ◌≤◌, ◌++◌, ◌∷◌, [], length, codes, decimal, map, IsTrue, OnOk, OnErr};
 ghost use Rattle.std.specs.List.{flat_map};
 ghost use Rattle.tcs_terms.specs.declared.limits.TheConstants.{MAX_NODES};
 ghost use Rattle.tcs_terms.specs.PayloadText.{payload_text};
 ghost use Rattle.tcs_terms.specs.Appends.{Begins};
+ghost use Rattle.schedule_text.specs.Printable.{has_line};
+ghost use Rattle.schedule_text.specs.ScriptText.{settle_line};
 ghost use Rattle.schedule_text.specs.Text.{spaced_number, numbers_text, version_line, certifier_line, shards_line, node_line, node_lines, config_line, first_lines, setup_lines, call_line, event_line, with_feed};
 
 use tcs_terms::{
@@ -220,11 +222,32 @@ fn put_event(out: &mut Vec<u8>, event: &Event) -> Result<(), OutOfMemory>
     }
 }
 
-/// Appends the line of an event that fits some setup; another may have an empty one. After want of memory the buffer begins with what it held.
+/// Whether an event has a line in a schedule: all but a delivery of a message by value, which fits no setup.
+pub fn has_line(event: &Event) -> bool
+    ensures { result ≡ has_line event.now }
+{
+    match event {
+        Event::Call { input, .. } => !matches!(input, Input::Deliver { .. }),
+        Event::DeliverNumber(_) | Event::Stop(_) => true,
+    }
+}
+
+/// Appends the line of an event that has one. After want of memory the buffer begins with what it held.
 pub fn print_event(event: &Event, out: &mut Vec<u8>) -> Result<(), OutOfMemory>
+    requires { IsTrue (has_line event.now) }
     ensures ok { OnOk result (out.new.items ≡ out.old.items ++ with_feed (event_line event.now)) }
     ensures err { OnErr result (Begins out.old.items out.new.items) }
 {
     put_event(out, event)?;
+    put(out, b"\n")
+}
+
+/// Appends the line of a script that lets so many turns pass. After want of memory the buffer begins with what it held.
+pub fn print_settle(turns: u32, out: &mut Vec<u8>) -> Result<(), OutOfMemory>
+    ensures ok { OnOk result (out.new.items ≡ out.old.items ++ with_feed (settle_line turns)) }
+    ensures err { OnErr result (Begins out.old.items out.new.items) }
+{
+    put(out, b"settle")?;
+    put_spaced(out, u64::from(turns))?;
     put(out, b"\n")
 }

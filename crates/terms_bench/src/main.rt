@@ -2,6 +2,7 @@
 //! argument is how often each is done. What it counts goes to standard output, the times to standard error.
 #![tactic(auto)]
 
+mod counted;
 mod measuring;
 mod payloads;
 #[cfg(test)]

@@ -1,6 +1,7 @@
 //! How long copies and parts of payloads take.
 ghost use Rattle.std.specs.Prelude.{◌≤◌};
 
+use crate::counted::Counted;
 use anyhow::Error;
 use std::alloc::Global;
 use std::rt::Clock;
@@ -20,12 +21,11 @@ pub struct Measured {
 
 /// How many reads so many copies have in all.
 fn copied(alloc: Global, payload: &Payload, rounds: u32) -> Result<u64, Error> {
-    let mut reads = 0u64;
+    let mut copies = Counted::new(alloc);
     for _ in 0..rounds {
-        let copy = payload.copy(alloc)?;
-        reads = reads.wrapping_add(copy.reads().len() as u64);
+        copies.keep(payload.copy(alloc)?)?;
     }
-    Ok(reads)
+    Ok(copies.reads_in_all())
 }
 
 /// How many reads so many parts in shard 1, of `n` shards, have in all.
@@ -33,13 +33,13 @@ fn restricted(alloc: Global, payload: &Payload, n: u8, rounds: u32) -> Result<u6
     requires some { 1 ≤ n }
     requires few { n ≤ 16 }
 {
-    let mut reads = 0u64;
+    let mut parts = Counted::new(alloc);
     for _ in 0..rounds {
         if let Some(part) = payload.restrict(alloc, 1, n)? {
-            reads = reads.wrapping_add(part.reads().len() as u64);
+            parts.keep(part)?;
         }
     }
-    Ok(reads)
+    Ok(parts.reads_in_all())
 }
 
 /// So many copies and parts of a payload.

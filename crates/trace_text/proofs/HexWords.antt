@@ -1,16 +1,23 @@
 -- Bytes in lower-case hex have one text.
-use Rattle.std.proofs.Common.{◌≡◌, ◌⊎◌, inl, inr, ℕ, ◌+◌, ◌*◌, ◌%◌, ◌<◌, ◌≤◌, true, ◌&&◌, List, [], ◌∷◌, length, Option, Some, None, Result, Ok, Err, refl, sym, ap, ◌∙◌, arith}
-use Rattle.std.specs.List.{list_all}
+use Rattle.std.proofs.Common.{◌≡◌, ◌⊎◌, inl, inr, ℕ, ◌+◌, ◌*◌, ◌%◌, ◌<◌, ◌≤◌, true, ◌&&◌, List, [], ◌∷◌, ◌++◌, length, Option, Some, None, Result, Ok, Err, refl, sym, ap, ◌∙◌, arith}
+use Rattle.std.specs.List.{list_all, flat_map}
 use Rattle.std.proofs.lemmas.Bool.{cases_lt}
 use Rattle.std.proofs.lemmas.Bool.Decides.{nat_tests}
 use Rattle.hex.specs.declared.error.FromHexError.{FromHexError}
-use Rattle.hex.specs.Hex.{IsBytes, encode_lower, lower_digits, decode_pairs, pair_value, value_at, digit_or_error, hex_digit_value, ◌>>=◌}
+use Rattle.hex.specs.Hex.{IsBytes, encode_with, encode_lower, lower_digits, decode_pairs, pair_value, value_at, digit_or_error, hex_digit_value, ◌>>=◌}
 use Rattle.hex.proofs.HexLemmas.{length-encode_with, decode_of-even, decode_of-ok, decode_of-encode_lower}
 use Rattle.tcs_terms.specs.PayloadWords.{is_lower_digit}
 use Rattle.tcs_terms.proofs.BoolLaws.{left_of, right_of}
 use Rattle.tcs_terms.proofs.ValueLaws.{encoded_is_lower}
 use Rattle.trace_text.specs.Words.{bytes_in}
 use Rattle.trace_text.proofs.ValueWords.{bytes_decode}
+
+-- ---- byte by byte
+
+pub each_byte : (bytes : List ℕ) → flat_map (λ byte. encode_lower (byte ∷ [])) bytes ≡ encode_lower bytes
+unfolding encode_with
+each_byte [] = refl
+each_byte (b ∷ bs) = ap (λ (digits : List ℕ). encode_lower (b ∷ []) ++ digits) (each_byte bs)
 
 -- ---- one digit for each value
 

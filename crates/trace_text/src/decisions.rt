@@ -2,6 +2,7 @@
 ghost use Rattle.std.specs.Prelude.{◌≡◌};
 ghost use Rattle.trace_text.specs.Readings.{clash_in, cause_in, abort_in, decision_in};
 
+use crate::spans::Span;
 use crate::words::{cut, number_within, txn_in};
 use tcs_terms::{Cause, Decision, ShardId};
 
@@ -38,7 +39,11 @@ fn abort_in(text: &[u8], shards: u8) -> Option<Decision>
 {
     let (word, rest) = cut(text, b' ')?;
     let (shard, cause) = cut(rest, b' ')?;
-    let shard = number_within(shard, 1, u64::from(shards))? as ShardId;
+    let shards = Span {
+        low: 1,
+        high: u64::from(shards),
+    };
+    let shard = number_within(shard, shards)? as ShardId;
     let cause = cause_in(cause)?;
     if word == b"abort".as_slice() {
         Some(Decision::Abort { shard, cause })

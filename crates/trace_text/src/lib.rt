@@ -10,6 +10,7 @@ mod printers;
 mod printing;
 mod reader;
 mod results;
+mod spans;
 mod stages;
 #[cfg(test)]
 mod tests;

@@ -1,5 +1,5 @@
 //! The parts of a trace's text, each appended to a buffer.
-ghost use Rattle.std.specs.Prelude.{◌≡◌, ◌++◌, codes, decimal, OnOk, OnErr};
+ghost use Rattle.std.specs.Prelude.{◌≡◌, ◌++◌, ◌∷◌, [], codes, decimal, OnOk, OnErr};
 ghost use Rattle.std.specs.List.{flat_map};
 ghost use Rattle.hex.specs.Hex.{encode_lower};
 ghost use Rattle.tcs_terms.specs.PayloadText.{value_text};
@@ -71,17 +71,34 @@ pub(crate) fn put_decision(out: &mut Vec<u8>, decision: Decision) -> Result<(), 
     }
 }
 
+/// The two digits of a byte, the high four bits first.
+#[tactic(auto, unfolding(hex::specs::Hex::encode_with))]
+fn digits_of(byte: u8) -> [u8; 2]
+    ensures { result ≡ encode_lower (byte ∷ []) }
+{
+    let digits = b"0123456789abcdef";
+    [
+        digits[usize::from(byte / 16)],
+        digits[usize::from(byte % 16)],
+    ]
+}
+
+fn put_byte(out: &mut Vec<u8>, byte: u8) -> Result<(), OutOfMemory>
+    ensures ok { OnOk result (out.new.items ≡ out.old.items ++ encode_lower (byte ∷ [])) }
+    ensures err { OnErr result (Begins out.old.items out.new.items) }
+{
+    put(out, &digits_of(byte))
+}
+
 /// Lower-case hex.
 pub(crate) fn put_hex(out: &mut Vec<u8>, bytes: &[u8]) -> Result<(), OutOfMemory>
     ensures ok { OnOk result (out.new.items ≡ out.old.items ++ encode_lower bytes.now) }
     ensures err { OnErr result (Begins out.old.items out.new.items) }
 {
-    let held = out.len();
-    out.resize(held.saturating_add(2 * bytes.len()), 0)?;
-    match hex::encode_to_slice(bytes, &mut out[held..]) {
-        Ok(()) => Ok(()),
-        Err(_) => unreachable!(),
+    for byte in bytes {
+        put_byte(out, *byte)?;
     }
+    Ok(())
 }
 
 pub(crate) fn put_value(out: &mut Vec<u8>, value: &[u8]) -> Result<(), OutOfMemory>

@@ -9,11 +9,11 @@ use crate::frames::frame_in;
 use crate::items::{TraceFault, TraceItem, TxList};
 use crate::notes::note_in;
 use crate::results::result_in;
+use crate::spans::{ENDS, SHARDS, VERSIONS};
 use crate::stages::{LineForm, Stage};
 use crate::words::{cut, next_number, number_within, order_in};
 use std::alloc::Global;
 use std::marker::Model;
-use tcs_terms::limits::{MAX_NODES, MAX_SHARDS};
 use tcs_terms::{OutOfMemory, Rule, read_number};
 
 /// Reads a trace line by line. Seen as where it stands.
@@ -149,9 +149,9 @@ impl TraceReader {
     {
         let (version, rest) = cut(text, b' ')?;
         let (rule, shards) = cut(rest, b' ')?;
-        let version = number_within(version, 1, 2)? as u8;
+        let version = number_within(version, VERSIONS)? as u8;
         let rule = Rule::named(rule)?;
-        let shards = number_within(shards, 1, u64::from(MAX_SHARDS))? as u8;
+        let shards = number_within(shards, SHARDS)? as u8;
         self.stage = Stage::Begun;
         self.version = version;
         self.shards = shards;
@@ -246,7 +246,7 @@ fn ends_in(text: &[u8], messages: u64) -> Option<(u64, &[u8])>
     let (from, rest) = cut(rest, b' ')?;
     let (to, rest) = cut(rest, b' ')?;
     let number = next_number(number, messages)?;
-    let _from = number_within(from, 0, u64::from(MAX_NODES))?;
-    let _to = number_within(to, 0, u64::from(MAX_NODES))?;
+    let _from = number_within(from, ENDS)?;
+    let _to = number_within(to, ENDS)?;
     Some((number, rest))
 }

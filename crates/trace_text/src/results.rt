@@ -2,6 +2,7 @@
 ghost use Rattle.std.specs.Prelude.{◌≡◌};
 ghost use Rattle.trace_text.specs.Readings.{marked_in, result_in};
 
+use crate::spans::MARKS;
 use crate::words::{cut, number_within};
 use tcs_terms::{Handled, Result1};
 
@@ -11,7 +12,7 @@ fn marked_in(text: &[u8]) -> Option<Result1>
     ensures { result ≡ marked_in text.now }
 {
     let (word, mark) = cut(text, b' ')?;
-    let mark = number_within(mark, 0, u64::from(u32::MAX))? as u32;
+    let mark = number_within(mark, MARKS)? as u32;
     if word == b"stale".as_slice() {
         Some(Result1::Node(Handled::Stale(mark)))
     } else if word == b"held".as_slice() {

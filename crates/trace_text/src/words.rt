@@ -7,9 +7,10 @@ ghost use Rattle.tcs_terms.specs.Words.{words_of};
 ghost use Rattle.trace_text.specs.Readings.{order_in};
 ghost use Rattle.trace_text.specs.Words.{cut, number_within, next_number, txn_in, name_in, bytes_in, each_txn};
 
+use crate::spans::{HOMES, SEQUENCE, Span};
 use hex::FromHexError;
 use std::alloc::Global;
-use tcs_terms::limits::{MAX_NODES, MAX_SEQUENCE, MAX_VALUE};
+use tcs_terms::limits::MAX_VALUE;
 use tcs_terms::{Name, NameFault, OutOfMemory, TxId, Value, ValueFault, read_number};
 
 /// The place of the first of these bytes.
@@ -28,14 +29,14 @@ pub(crate) fn cut(text: &[u8], byte: u8) -> Option<(&[u8], &[u8])>
     Some((&text[..place], &text[place + 1..]))
 }
 
-/// A number in this range.
+/// A number in this span.
 #[tactic(auto, unfolding(crate::specs::Words::number_within))]
-pub(crate) fn number_within(word: &[u8], low: u64, high: u64) -> Option<u64>
-    ensures value { result ≡ number_within low high word.now }
-    ensures range { IfSome result (λ n. (low ≤ n) × (n ≤ high)) }
+pub(crate) fn number_within(word: &[u8], span: Span) -> Option<u64>
+    ensures value { result ≡ number_within span.low span.high word.now }
+    ensures range { IfSome result (λ n. (span.low ≤ n) × (n ≤ span.high)) }
 {
     let number = read_number(word)?;
-    if low <= number && number <= high {
+    if span.low <= number && number <= span.high {
         Some(number)
     } else {
         None
@@ -61,8 +62,8 @@ pub(crate) fn txn_in(text: &[u8]) -> Option<TxId>
     ensures { result ≡ txn_in text.now }
 {
     let (home, seq) = cut(text, b'.')?;
-    let home = number_within(home, 1, u64::from(MAX_NODES))?;
-    let seq = number_within(seq, 1, u64::from(MAX_SEQUENCE))?;
+    let home = number_within(home, HOMES)?;
+    let seq = number_within(seq, SEQUENCE)?;
     Some(TxId {
         home: home as u8,
         seq: seq as u32,

@@ -1,7 +1,7 @@
 //! Schedules that are read, and printed again.
 
 use crate::tests::support::{joined, source_of};
-use crate::{Got, LineItem, LineReader, Lines, print_event, print_setup};
+use crate::{Got, LineItem, LineReader, Lines, has_line, print_event, print_setup};
 use std::alloc::Global;
 use std::process::Abort;
 use std::test::Fail;
@@ -14,7 +14,7 @@ certify 3 v 18446744073709551615 q a c 0\n\
 deliver 4294967295\ntake 3 2.1000000\nnudge 1\nmove 2 1 1 3\nmove 1 2\nlower 2\nread 2 n_x\nask 1 2\nstop 3\nend\n";
 
 /// What is printed of what is read of a text.
-fn printed(alloc: Global, text: &[u8], most: usize) -> Result<Vec<u8>, Fail> {
+fn printed(rt: &impl Abort, alloc: Global, text: &[u8], most: usize) -> Result<Vec<u8>, Fail> {
     let mut source = source_of(alloc, text, most, &[])?;
     let mut lines = Lines::begin(alloc)?;
     let mut reader = LineReader::new(alloc);
@@ -25,7 +25,10 @@ fn printed(alloc: Global, text: &[u8], most: usize) -> Result<Vec<u8>, Fail> {
         match reader.take(got, &line)? {
             LineItem::Header => {}
             LineItem::Begun(setup) => print_setup(&setup, &mut out)?,
-            LineItem::Event(event) => print_event(&event, &mut out)?,
+            LineItem::Event(event) => {
+                assert!(rt; has_line(&event));
+                print_event(&event, &mut out)?;
+            }
             LineItem::End => {
                 if got == Got::Nothing {
                     return Ok(out);
@@ -40,7 +43,7 @@ fn printed(alloc: Global, text: &[u8], most: usize) -> Result<Vec<u8>, Fail> {
 #[test]
 fn what_is_read_is_printed_again(rt: HostRuntime) -> Result<(), Fail> {
     for most in [1, 7, 4096] {
-        let out = printed(rt.alloc(), EVERY_LINE.as_bytes(), most)?;
+        let out = printed(&rt, rt.alloc(), EVERY_LINE.as_bytes(), most)?;
         assert_eq!(rt;
             out.as_slice(),
             EVERY_LINE.as_bytes(),
@@ -59,7 +62,7 @@ fn expect_rule(rt: &impl Abort, alloc: Global, rule: &str) -> Result<(), Fail> {
             "\nshards 1\nnode 1 1\nconfig 1 1 1\nevents\nend\n",
         ],
     )?;
-    let out = printed(alloc, &text, 4096)?;
+    let out = printed(rt, alloc, &text, 4096)?;
     assert_eq!(rt; out.as_slice(), text.as_slice());
     Ok(())
 }
