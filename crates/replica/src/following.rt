@@ -1,6 +1,7 @@
 //! A node becomes follower of a configuration, with its leader's rows.
 ghost use Rattle.std.specs.Prelude.{◌≡◌, ◌&&◌, ◌==◌, ◌≤◌, None, IsTrue, IsErr, IfOk, OnOk};
 ghost use Rattle.std.specs.Result.{is_err};
+ghost use Rattle.tcs_terms.specs.Versions.{version_number};
 ghost use Rattle.protocol.specs.Pieces.{takes_piece};
 ghost use Rattle.protocol.specs.Records.{NodeRecord};
 ghost use Rattle.protocol.specs.ShardRules.{gathers, on_new_state, on_state_piece};
@@ -14,12 +15,7 @@ use answers::refusal;
 use state_transfer::{Gathering, StatePiece, drop_below, gather, takes_piece};
 use std::alloc::Global;
 use tcs_laws::VoteGuard;
-use tcs_terms::{Config, Handled, OutOfMemory, Rows};
-
-/// The version whose states are sent whole.
-const WHOLE: u8 = 1;
-/// The version whose states are sent in pieces.
-const IN_PIECES: u8 = 2;
+use tcs_terms::{Config, Handled, OutOfMemory, Rows, Version};
 
 impl<G: VoteGuard> Replica<G> {
     /// Whether the node may follow a configuration: it is of its shard and a member that does not lead, and the epoch is
@@ -32,38 +28,46 @@ impl<G: VoteGuard> Replica<G> {
             && is_follower(config, self.name)
     }
 
-    /// The same, where this version of states is the one of the run.
-    fn may_take(&self, needed: u8, version: u8, config: &Config) -> bool
-        ensures { result ≡ ((version == needed) && can_follow self.now config.now) }
+    /// Whether a state of this configuration may be taken whole.
+    fn may_take_whole(&self, version: Version, config: &Config) -> bool
+        ensures { result ≡ ((version_number version == 1) && can_follow self.now config.now) }
     {
-        version == needed && self.may_follow(config)
+        match version {
+            Version::One => self.may_follow(config),
+            Version::Two => false,
+        }
     }
 
     /// Whether a piece of a state of this configuration may be taken.
-    fn may_take_piece(&self, version: u8, config: &Config, piece: &StatePiece) -> bool
-        ensures { result ≡ ((version == 2) && can_follow self.now config.now
+    fn may_take_piece(&self, version: Version, config: &Config, piece: &StatePiece) -> bool
+        ensures { result ≡ ((version_number version == 2) && can_follow self.now config.now
             && takes_piece self.now.gathering config.now piece.now.pieces (kept_as piece.now)) }
     {
-        self.may_take(IN_PIECES, version, config) && takes_piece(&self.gathering, config, piece)
+        match version {
+            Version::One => false,
+            Version::Two => {
+                self.may_follow(config) && takes_piece(&self.gathering, config, piece)
+            }
+        }
     }
 
     /// NEW_STATE, under version 1: the node becomes follower with these rows. Nothing is sent.
     pub fn new_state(
         &mut self,
         alloc: Global,
-        version: u8,
+        version: Version,
         config: Config,
         rows: Rows,
     ) -> Result<Handled, OutOfMemory>
-        ensures answer { (node : NodeRecord) → IfOk result (λ h. h ≡ (on_new_state version (within node self.old) config rows).answer) }
-        ensures kept { (node : NodeRecord) → OnOk result (within node self.new ≡ (on_new_state version (within node self.old) config rows).kept) }
+        ensures answer { (node : NodeRecord) → IfOk result (λ h. h ≡ (on_new_state (version_number version) (within node self.old) config rows).answer) }
+        ensures kept { (node : NodeRecord) → OnOk result (within node self.new ≡ (on_new_state (version_number version) (within node self.old) config rows).kept) }
         ensures spent { self.new.spent ≡ is_err result }
         ensures refuses { IsTrue self.old.spent → IsErr result }
     {
         if self.spent {
             return Err(OutOfMemory);
         }
-        if !self.may_take(WHOLE, version, &config) {
+        if !self.may_take_whole(version, &config) {
             return Ok(refusal(config.epoch(), self.least()));
         }
         self.spent = true;
@@ -99,16 +103,16 @@ impl<G: VoteGuard> Replica<G> {
     pub fn state_piece(
         &mut self,
         alloc: Global,
-        version: u8,
+        version: Version,
         config: Config,
         piece: StatePiece,
     ) -> Result<Handled, OutOfMemory>
         requires from_one { 1 ≤ piece.number }
         requires one_of { piece.number ≤ piece.pieces }
         ensures answer { (node : NodeRecord) → IfOk result (λ h. h
-            ≡ (on_state_piece version (within node self.old) config piece.pieces (kept_as piece)).answer) }
+            ≡ (on_state_piece (version_number version) (within node self.old) config piece.pieces (kept_as piece)).answer) }
         ensures kept { (node : NodeRecord) → OnOk result (within node self.new
-            ≡ (on_state_piece version (within node self.old) config piece.pieces (kept_as piece)).kept) }
+            ≡ (on_state_piece (version_number version) (within node self.old) config piece.pieces (kept_as piece)).kept) }
         ensures spent { self.new.spent ≡ is_err result }
         ensures refuses { IsTrue self.old.spent → IsErr result }
     {

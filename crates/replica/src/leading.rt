@@ -1,6 +1,7 @@
 //! A node becomes leader of a configuration.
 ghost use Rattle.std.specs.Prelude.{◌≡◌, ◌++◌, ◌&&◌, ◌==◌, IsTrue, IsErr, IfOk, OnOk};
 ghost use Rattle.std.specs.Result.{is_err};
+ghost use Rattle.tcs_terms.specs.Versions.{version_number};
 ghost use Rattle.protocol.specs.Records.{NodeRecord};
 ghost use Rattle.protocol.specs.ShardRules.{is_fenced, on_new_config};
 ghost use Rattle.replica.specs.Replicas.{within};
@@ -10,7 +11,7 @@ use answers::refusal;
 use state_transfer::send_states;
 use std::alloc::Global;
 use tcs_laws::VoteGuard;
-use tcs_terms::{Config, Handled, OutOfMemory, Outgoing};
+use tcs_terms::{Config, Handled, OutOfMemory, Outgoing, Version};
 
 impl<G: VoteGuard> Replica<G> {
     /// Whether the node is fenced, and promised the epoch of this configuration of its shard, which it is to lead.
@@ -30,13 +31,13 @@ impl<G: VoteGuard> Replica<G> {
     pub fn new_config(
         &mut self,
         alloc: Global,
-        version: u8,
+        version: Version,
         config: Config,
         out: &mut Vec<Outgoing>,
     ) -> Result<Handled, OutOfMemory>
-        ensures answer { (node : NodeRecord) → IfOk result (λ h. h ≡ (on_new_config version (within node self.old) config).answer) }
-        ensures kept { (node : NodeRecord) → OnOk result (within node self.new ≡ (on_new_config version (within node self.old) config).kept) }
-        ensures sends { (node : NodeRecord) → OnOk result (out.new.items ≡ out.old.items ++ (on_new_config version (within node self.old) config).sends) }
+        ensures answer { (node : NodeRecord) → IfOk result (λ h. h ≡ (on_new_config (version_number version) (within node self.old) config).answer) }
+        ensures kept { (node : NodeRecord) → OnOk result (within node self.new ≡ (on_new_config (version_number version) (within node self.old) config).kept) }
+        ensures sends { (node : NodeRecord) → OnOk result (out.new.items ≡ out.old.items ++ (on_new_config (version_number version) (within node self.old) config).sends) }
         ensures spent { self.new.spent ≡ is_err result }
         ensures refuses { IsTrue self.old.spent → IsErr result }
     {

@@ -10,7 +10,7 @@ use std::test::Fail;
 use tcs_laws::ScanGuard;
 use tcs_terms::{
     Config, Entry, Epoch, Handled, Message, Name, OutOfMemory, Outgoing, Payload, ReadPart,
-    ShardSet, Slot, TxId, Value, Vote, WritePart,
+    ShardSet, Slot, TxId, Value, Version, Vote, WritePart,
 };
 
 type Node = Replica<ScanGuard<Serial>>;
@@ -35,8 +35,22 @@ fn a_new_member_takes_the_rows(rt: HostRuntime) -> Result<(), Fail> {
     let mut old = Node::first(alloc, 1, 1, Some(&config(alloc, 1, 3)?))?;
     let mut new = Node::first(alloc, 3, 1, None)?;
     accept_rows(&rt, alloc, &mut old)?;
-    hand_over(&rt, alloc, &mut old, &mut new, 2, config(alloc, 2, 1)?)?;
-    hand_over(&rt, alloc, &mut old, &mut new, 1, config(alloc, 3, 1)?)?;
+    hand_over(
+        &rt,
+        alloc,
+        &mut old,
+        &mut new,
+        Version::Two,
+        config(alloc, 2, 1)?,
+    )?;
+    hand_over(
+        &rt,
+        alloc,
+        &mut old,
+        &mut new,
+        Version::One,
+        config(alloc, 3, 1)?,
+    )?;
     assert_eq!(rt; (new.name(), new.shard(), new.rows().len()), (3, 1, 25));
     assert!(rt; new.row_of(txn(1)).is_some() && new.row_of(txn(25)).is_some());
     Ok(())
@@ -101,7 +115,7 @@ fn hand_over(
     alloc: Global,
     old: &mut Node,
     new: &mut Node,
-    version: u8,
+    version: Version,
     config: Config,
 ) -> Result<(), Fail> {
     let epoch = config.epoch();
@@ -122,7 +136,7 @@ fn hand_over(
 fn takes(
     alloc: Global,
     node: &mut Node,
-    version: u8,
+    version: Version,
     message: Message,
 ) -> Result<bool, OutOfMemory> {
     let answer = match message {

@@ -4,6 +4,8 @@ ghost use Rattle.std.specs.List.{range_with_len};
 ghost use Rattle.tcs_terms.specs.declared.messages.Message.TheVariants.{NewState, StatePiece};
 ghost use Rattle.tcs_terms.specs.Appends.{Begins};
 ghost use Rattle.tcs_terms.specs.Logs.{AreRows};
+ghost use Rattle.tcs_terms.specs.Versions.{version_number};
+ghost use Rattle.protocol.specs.Outcomes.{to};
 ghost use Rattle.protocol.specs.Pieces.{piece_count, piece_of};
 ghost use Rattle.protocol.specs.ShardRules.{state_to};
 ghost use Rattle.protocol.specs.Views.{followers};
@@ -12,10 +14,7 @@ ghost use Rattle.state_transfer.specs.Sent.{piece_to};
 use crate::copies::copied;
 use crate::pieces::{piece, piece_count};
 use std::alloc::Global;
-use tcs_terms::{Config, Message, NodeId, OutOfMemory, Outgoing, Row};
-
-/// The only version whose states are sent in pieces.
-const IN_PIECES: u8 = 2;
+use tcs_terms::{Config, Message, NodeId, OutOfMemory, Outgoing, Row, Version};
 
 fn whole_message(alloc: Global, config: &Config, rows: &[Row]) -> Result<Message, OutOfMemory>
     requires { AreRows rows.now }
@@ -25,6 +24,22 @@ fn whole_message(alloc: Global, config: &Config, rows: &[Row]) -> Result<Message
         config: config.copy(alloc)?,
         rows: copied(alloc, rows)?,
     })
+}
+
+fn send_whole(
+    alloc: Global,
+    config: &Config,
+    rows: &[Row],
+    node: NodeId,
+    out: &mut Vec<Outgoing>,
+) -> Result<(), OutOfMemory>
+    requires { AreRows rows.now }
+    ensures ok { OnOk result (out.new.items ≡ out.old.items ++ to node (NewState config.now rows.now) ∷ []) }
+    ensures err { OnErr result (Begins out.old.items out.new.items) }
+{
+    let message = whole_message(alloc, config, rows)?;
+    out.push(Outgoing { to: node, message })?;
+    Ok(())
 }
 
 fn piece_message(
@@ -67,34 +82,32 @@ fn send_pieces(
 #[tactic(auto, unfolding(protocol::specs::ShardRules::state_to, protocol::specs::Choices::when))]
 pub fn send_state(
     alloc: Global,
-    version: u8,
+    version: Version,
     config: &Config,
     rows: &[Row],
     node: NodeId,
     out: &mut Vec<Outgoing>,
 ) -> Result<(), OutOfMemory>
     requires { AreRows rows.now }
-    ensures ok { OnOk result (out.new.items ≡ out.old.items ++ state_to version config.now rows.now node) }
+    ensures ok { OnOk result (out.new.items ≡ out.old.items ++ state_to (version_number version) config.now rows.now node) }
     ensures err { OnErr result (Begins out.old.items out.new.items) }
 {
-    if version == IN_PIECES {
-        return send_pieces(alloc, config, rows, node, out);
+    match version {
+        Version::One => send_whole(alloc, config, rows, node, out),
+        Version::Two => send_pieces(alloc, config, rows, node, out),
     }
-    let message = whole_message(alloc, config, rows)?;
-    out.push(Outgoing { to: node, message })?;
-    Ok(())
 }
 
 /// Appends the messages that hand a leader's rows to each follower of a configuration, as `send_state` does.
 pub fn send_states(
     alloc: Global,
-    version: u8,
+    version: Version,
     config: &Config,
     rows: &[Row],
     out: &mut Vec<Outgoing>,
 ) -> Result<(), OutOfMemory>
     requires { AreRows rows.now }
-    ensures ok { OnOk result (out.new.items ≡ out.old.items ++ flat_map (state_to version config.now rows.now) (followers config.now)) }
+    ensures ok { OnOk result (out.new.items ≡ out.old.items ++ flat_map (state_to (version_number version) config.now rows.now) (followers config.now)) }
     ensures err { OnErr result (Begins out.old.items out.new.items) }
 {
     for member in config.members() {

@@ -4,7 +4,7 @@ use super::*;
 use std::alloc::Global;
 use std::process::Abort;
 use std::test::Fail;
-use tcs_terms::{Config, Entry, Mark, Message, Outgoing, Row, Rows, ShardSet, TxId, Vote};
+use tcs_terms::{Config, Entry, Mark, Message, Outgoing, Row, Rows, ShardSet, TxId, Version, Vote};
 
 /// The rows of the first transactions of node 1, each in the slot of its number.
 fn rows_to(alloc: Global, last: u16) -> Result<Rows, Fail>
@@ -67,7 +67,7 @@ fn a_state_in_two_pieces(rt: HostRuntime) -> Result<(), Fail> {
     assert_eq!(rt; (piece_count(rows.list()), sizes), (2, [24, 1, 0]));
 
     let mut sent = Vec::new(alloc);
-    send_states(alloc, 2, &config, rows.list(), &mut sent)?;
+    send_states(alloc, Version::Two, &config, rows.list(), &mut sent)?;
     match sent.as_slice() {
         [first, second] => {
             assert_eq!(rt; (first.to, second.to), (3, 3));
@@ -91,8 +91,8 @@ fn a_state_in_one_message(rt: HostRuntime) -> Result<(), Fail> {
     let config = Config::build(1, 2, vec![in alloc; 2, 3]?, 2, 3)?;
     let rows = rows_to(alloc, 1)?;
     let mut sent = Vec::new(alloc);
-    send_state(alloc, 1, &config, rows.list(), 3, &mut sent)?;
-    send_state(alloc, 2, &config, rows.list(), 3, &mut sent)?;
+    send_state(alloc, Version::One, &config, rows.list(), 3, &mut sent)?;
+    send_state(alloc, Version::Two, &config, rows.list(), 3, &mut sent)?;
     match sent.as_slice() {
         [whole, only] => {
             assert!(rt;

@@ -1,6 +1,7 @@
 -- A piece is taken where the guard passes, and refused elsewhere.
 use Rattle.std.proofs.Common.{◌≡◌, true, refl, sym, ap, subst, ◌∙◌, ◌&&◌, ◌==◌}
 use Rattle.tcs_terms.proofs.BoolLaws.{right_of}
+use Rattle.tcs_terms.specs.Versions.{version_number}
 use Rattle.protocol.specs.Pieces.{takes_piece, gathering_for, with_one_more}
 use Rattle.protocol.specs.Records.{Piece}
 use Rattle.protocol.specs.Choices.{when}
@@ -24,7 +25,7 @@ gather-requires-clause-taken g c =
     let can = can_follow c.args.self.now c.args.config in
     let takes = takes_piece c.args.self.now.gathering c.args.config c.args.piece.pieces (kept_as c.args.piece) in
     rw c.take-before.ensures.value (subst (λ (s : ReplicaState). takes_piece s.gathering c.args.config c.args.piece.pieces (kept_as c.args.piece) ≡ true) (sym c.self.view_is)
-    (right_of ((c.args.version == 2) && can) takes (sym c.may_take_piece.ensures ∙ c.if-not-may_take_piece.false)))
+    (right_of ((version_number c.args.version == 2) && can) takes (sym c.may_take_piece.ensures ∙ c.if-not-may_take_piece.false)))
 
 pub returns-clause-answer : goal.returns-clause-answer
 unfolding on_state_piece when
