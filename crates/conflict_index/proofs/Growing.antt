@@ -136,7 +136,7 @@ counted_more {X} counts at before after grows parts i d within kept is here =
     ∙ and_from _ _
     (all_grow (λ x. not (counts x) || contains place_cmp before (at x)) now
     (λ x was. elim (or_cases (not (counts x)) (contains place_cmp before (at x)) was) [
-      | inl no ↦ or_left (not (counts x)) (contains place_cmp after (at x)) no
+      | inl out ↦ or_left (not (counts x)) (contains place_cmp after (at x)) out
       | inr there ↦ or_right (not (counts x)) (contains place_cmp after (at x)) (grows.keeps (at x) there)
     ]) (take i parts) kept)
     (ap now (sym is) ∙ here)

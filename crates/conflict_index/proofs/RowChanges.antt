@@ -75,7 +75,7 @@ readers_still counts before after grows slot p kept =
     all_grow (λ r. not (counts p r.name) || contains place_cmp before (place r.name p.version slot))
     (λ r. not (counts p r.name) || contains place_cmp after (place r.name p.version slot))
     (λ r here. elim (or_cases (not (counts p r.name)) (contains place_cmp before (place r.name p.version slot)) here) [
-      | inl no ↦ or_left (not (counts p r.name)) (contains place_cmp after (place r.name p.version slot)) no
+      | inl out ↦ or_left (not (counts p r.name)) (contains place_cmp after (place r.name p.version slot)) out
       | inr there ↦ or_right (not (counts p r.name)) (contains place_cmp after (place r.name p.version slot))
           (grows.keeps (place r.name p.version slot) there)
     ]) p.reads kept

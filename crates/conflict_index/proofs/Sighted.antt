@@ -233,7 +233,7 @@ module _ (counts : Accesses → List ℕ → Bool) (unwritten : Bool) (written :
                 old.reads read.1 reads in
                 or_left (named || more) ranged (or_left named more
                 (elim (or_cases (not (counts old w.name)) (contains place_cmp kept.readers (place w.name old.version slot)) kept_there) [
-                  | inl no ↦ absurd (both_ways _ (not-true _ no) read.0)
+                  | inl out ↦ absurd (both_ways _ (not-true _ out) read.0)
                   | inr there ↦ own_looked_at kept.readers w.name old.version slot formed.version_fits few there
                 ]))
             | inr ranging ↦ or_right (named || more) ranged (kept_ranged kept.ranged slot

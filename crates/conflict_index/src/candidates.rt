@@ -66,9 +66,11 @@ pub fn lowest_to<C: Certifier>(
     ensures { result ≡ lowest_at C.tests query.entry.rows.now query.entry.new.now
         (keys_between place_cmp (Included from) (Included last) places.now) best }
 {
-    places
-        .range(from..=last)
-        .fold(best, |best, place| lower::<C>(query, best, place.slot))
+    let mut lowest = best;
+    for place in places.range(from..=last) {
+        lowest = lower::<C>(query, lowest, place.slot);
+    }
+    lowest
 }
 
 /// The lowest slot that clashes, with the slots of all places from one on and before another looked at.
@@ -84,7 +86,9 @@ pub fn lowest_before<C: Certifier>(
     ensures { result ≡ lowest_at C.tests query.entry.rows.now query.entry.new.now
         (keys_between place_cmp (Included from) (Excluded upto) places.now) best }
 {
-    places
-        .range(from..upto)
-        .fold(best, |best, place| lower::<C>(query, best, place.slot))
+    let mut lowest = best;
+    for place in places.range(from..upto) {
+        lowest = lower::<C>(query, lowest, place.slot);
+    }
+    lowest
 }
