@@ -2,6 +2,7 @@ pub mod Settling
 pub mod Naming
 pub mod Finding
 pub mod Touching
+pub mod Sighted
 pub mod Voting
 pub mod Rising
 pub mod Growing

@@ -1,10 +1,10 @@
 -- Names that are filled up stand in the order of names.
-use Rattle.std.proofs.Common.{◌≡◌, ℕ, ◌+◌, ◌-◌, ◌<◌, zero, suc, true, false, List, [], ◌∷◌, ◌++◌, length, refl, sym, ap, subst, arith}
+use Rattle.std.proofs.Common.{◌≡◌, ℕ, ◌+◌, ◌-◌, ◌^◌, ◌<◌, ◌≤◌, zero, suc, true, false, List, [], ◌∷◌, ◌++◌, length, refl, sym, ap, ◌∙◌, subst, arith}
 use Rattle.std.specs.Prelude.{replicate}
 use Rattle.std.specs.List.{list_all}
 use Rattle.std.specs.Cmp.Lexicographic.{slice_cmp}
-use Rattle.std.specs.Ordering.{nat_cmp, ordering_then}
-use Rattle.std.specs.Cmp.{nat_cmp_is}
+use Rattle.std.specs.Ordering.{nat_cmp, ordering_then, MatchOrdering}
+use Rattle.std.specs.Cmp.{nat_cmp_is, ranks}
 use Rattle.std.specs.declared.cmp.Ordering.{Ordering}
 use Rattle.std.specs.declared.cmp.Ordering.TheVariants.{Less, Equal, Greater}
 use Rattle.std.proofs.lemmas.Bool.{and_parts}
@@ -15,7 +15,7 @@ use Rattle.std.specs.BTreeMap.Range.{IsLeBy}
 use Rattle.tcs_terms.specs.declared.payloads.RangePart.{RangePart}
 use Rattle.tcs_terms.specs.Payloads.{IsRangePart}
 use Rattle.tcs_terms.specs.Order.{name_before}
-use Rattle.conflict_index.specs.Keeping.{padded, place, place_cmp}
+use Rattle.conflict_index.specs.Keeping.{padded, place, place_at, place_cmp, object_cmp}
 
 positive : (b : ℕ) → is_name_byte b ≡ true → 0 < b
 positive zero e = absurd (let no : false ≡ true = e in cc)
@@ -57,15 +57,38 @@ padded_cmp a b name_a name_b =
     let short_b = name_b.short in
     filled_cmp a b (MAX_NAME - length a) (MAX_NAME - length b) (omega arith) name_a.alphabet name_b.alphabet
 
--- the ends of an object, and those of a range, are in order
-pub own_forward : (name : List ℕ) → IsLeBy place_cmp (place name 0) (place name 65535)
-own_forward name = rw (same_cmp (padded name))
+-- the ends of an object, of what stands above a version of it, and of a range are in order
+later_pair : (a b c d : ℕ) → a ≤ b → (a ≡ b → c ≤ d) → is_gt (ordering_then (nat_cmp a b) (nat_cmp c d)) ≡ false
+later_pair a b c d low later = go (nat_cmp a b) (ranks a b) where
+  last : (o : Ordering) → MatchOrdering o (c < d) (c ≡ d) (d < c) → c ≤ d → is_gt o ≡ false
+  last Less r e = refl
+  last Equal r e = refl
+  last Greater r e = absurd (omega arith)
 
-pub range_forward : (q : RangePart) → IsRangePart q → name_before q.from q.upto ≡ true → IsLeBy place_cmp (place q.from 0) (place q.upto 0)
+  go : (o : Ordering) → MatchOrdering o (a < b) (a ≡ b) (b < a) → is_gt (ordering_then o (nat_cmp c d)) ≡ false
+  go Less r = refl
+  go Equal r = last (nat_cmp c d) (ranks c d) (later r)
+  go Greater r = absurd (omega arith)
+
+pub own_forward : (name : List ℕ) → IsLeBy place_cmp (place name 0 0) (place name (2 ^ 64 - 1) 65535)
+own_forward name = rw (same_cmp (padded name)) (later_pair 0 (2 ^ 64 - 1) 0 65535 (omega arith) (λ _. omega arith))
+
+pub above_forward : (object : List ℕ) (version : ℕ) → version < 2 ^ 64
+    → IsLeBy place_cmp (place_at object version 65535) (place_at object (2 ^ 64 - 1) 65535)
+above_forward object version fits = rw (same_cmp object) (later_pair version (2 ^ 64 - 1) 65535 65535 (omega arith) (λ _. omega arith))
+
+is_less : (o : Ordering) → is_lt o ≡ true → o ≡ Less
+is_less Less e = refl
+is_less Equal e = absurd (let no : false ≡ true = e in cc)
+is_less Greater e = absurd (let no : false ≡ true = e in cc)
+
+less_padded : (q : RangePart) → IsRangePart q → name_before q.from q.upto ≡ true → slice_cmp nat_cmp (padded q.from) (padded q.upto) ≡ Less
+less_padded q formed before =
+    padded_cmp q.from q.upto formed.from formed.upto ∙ is_less (slice_cmp nat_cmp q.from q.upto) before
+
+pub objects_forward : (q : RangePart) → IsRangePart q → name_before q.from q.upto ≡ true → IsLeBy object_cmp (padded q.from) (padded q.upto)
+objects_forward q formed before = ap is_gt (less_padded q formed before)
+
+pub range_forward : (q : RangePart) → IsRangePart q → name_before q.from q.upto ≡ true → IsLeBy place_cmp (place q.from 0 0) (place q.upto 0 0)
 range_forward q formed before =
-    let order : slice_cmp nat_cmp (padded q.from) (padded q.upto) ≡ slice_cmp nat_cmp q.from q.upto = padded_cmp q.from q.upto formed.from formed.upto in
-    rw order (go (slice_cmp nat_cmp q.from q.upto) before) where
-      go : (o : Ordering) → is_lt o ≡ true → is_gt (ordering_then o (nat_cmp 0 0)) ≡ false
-      go Less e = refl
-      go Equal e = absurd (let no : false ≡ true = e in cc)
-      go Greater e = absurd (let no : false ≡ true = e in cc)
+    ap (λ o. is_gt (ordering_then o (ordering_then (nat_cmp 0 0) (nat_cmp 0 0)))) (less_padded q formed before)

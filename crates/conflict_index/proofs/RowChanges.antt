@@ -1,6 +1,6 @@
 -- An index stands for the rows as they change.
-use Rattle.std.proofs.Common.{◌≡◌, ℕ, ◌^◌, ◌<◌, ◌≢◌, Bool, true, false, ◌&&◌, ◌||◌, cond, List, [], ◌∷◌, ◌++◌, length, get_or, refl, sym, ap, ◌∙◌, subst, inl, inr, arith}
-use Rattle.std.specs.Prelude.{Result, Ok, Err, OnErr, ◌==◌, nat_lt, filter, map, Contains, slice_index}
+use Rattle.std.proofs.Common.{◌≡◌, ℕ, ◌^◌, ◌<◌, ◌≢◌, Bool, true, false, not, ◌&&◌, ◌||◌, cond, List, [], ◌∷◌, ◌++◌, length, get_or, refl, sym, ap, ◌∙◌, subst, inl, inr, arith}
+use Rattle.std.specs.Prelude.{Result, Ok, Err, OnErr, IsTrue, ◌==◌, nat_lt, filter, map, Contains, slice_index}
 use Rattle.std.specs.List.{list_all}
 use Rattle.std.specs.BTreeSet.{BTreeSet, contains}
 use Rattle.std.specs.Ordering.{nat_cmp}
@@ -14,12 +14,13 @@ use Rattle.tcs_terms.specs.declared.logs.Mark.{Mark}
 use Rattle.tcs_terms.specs.declared.logs.Mark.TheVariants.{Undecided, Committed, Aborted}
 use Rattle.tcs_terms.specs.declared.votes.Vote.{Vote}
 use Rattle.tcs_terms.specs.declared.votes.Vote.TheVariants.{Commit, Clash, Lost}
-use Rattle.tcs_terms.specs.Payloads.{Accesses}
+use Rattle.tcs_terms.specs.Payloads.{Accesses, IsPayload}
 use Rattle.tcs_laws.specs.Rows.{put_row, marked, set_mark, first_mark}
 use Rattle.tcs_laws.proofs.ListLemmas.{all_agree}
+use Rattle.conflict_index.specs.declared.kept.Kept.{Kept}
 use Rattle.conflict_index.specs.declared.places.Place.{Place}
-use Rattle.conflict_index.specs.Change.{Grows, Forgets}
-use Rattle.conflict_index.specs.Keeping.{Keeps, KeepsRow, IsIndexOf, slots_rise, sight_counts, place, place_cmp}
+use Rattle.conflict_index.specs.Change.{Grows, KeepsMore, Forgets}
+use Rattle.conflict_index.specs.Keeping.{Keeps, KeepsRow, IsIndexOf, slots_rise, writes_count, is_live, all_kept, place, place_cmp}
 use Rattle.conflict_index.specs.Slots.{slots_of}
 use Rattle.conflict_index.proofs.Growing.{kept_still, all_grow}
 use Rattle.conflict_index.proofs.Rising.{rises}
@@ -33,12 +34,12 @@ all_filter f keep (x ∷ xs) each =
     (λ _. and_from (f x) (list_all f (filter keep xs)) parts.0 (all_filter f keep xs parts.1))
     (λ _. all_filter f keep xs parts.1)
 
-all_kept : {X : Type 0} (keep : X → Bool) (xs : List X) → list_all keep (filter keep xs) ≡ true
-all_kept keep [] = refl
-all_kept keep (x ∷ xs) =
+all_pass : {X : Type 0} (keep : X → Bool) (xs : List X) → list_all keep (filter keep xs) ≡ true
+all_pass keep [] = refl
+all_pass keep (x ∷ xs) =
     cond_both (keep x) (x ∷ filter keep xs) (filter keep xs) (λ ys. list_all keep ys ≡ true)
-    (λ kept. and_from (keep x) (list_all keep (filter keep xs)) kept (all_kept keep xs))
-    (λ _. all_kept keep xs)
+    (λ kept. and_from (keep x) (list_all keep (filter keep xs)) kept (all_pass keep xs))
+    (λ _. all_pass keep xs)
 
 rise_filter : (keep : Row → Bool) (rows : List Row) → slots_rise rows ≡ true → slots_rise (filter keep rows) ≡ true
 rise_filter keep [] rise = refl
@@ -66,104 +67,146 @@ rise_join (r ∷ rs) row upper rise below above =
     ∙ and_from _ _ parts.0 (and_from (nat_lt r.entry.slot row.entry.slot) (list_all (λ later. nat_lt r.entry.slot later.entry.slot) upper) first.0 far))
     (rise_join rs row upper parts.1 first.1 above)
 
--- an index that has grown keeps what it kept
-keeps_grown : (writes reads : BTreeSet Place) (ranged : BTreeSet ℕ) (writes' reads' : BTreeSet Place) (ranged' : BTreeSet ℕ)
-    → Grows place_cmp writes writes' → Grows place_cmp reads reads' → Grows nat_cmp ranged ranged'
-    → (mark : Mark) (vote : Vote) (slot : ℕ) (p : Accesses)
-    → Keeps writes reads ranged mark vote slot p → Keeps writes' reads' ranged' mark vote slot p
-keeps_grown writes reads ranged writes' reads' ranged' grow_w grow_r grow_g mark vote slot p keeps = record {
-  formed = keeps.formed;
-  kept_writes = λ counts. kept_still (λ w. w.name) slot writes writes' grow_w p.writes (keeps.kept_writes counts);
-  kept_reads = λ counts. kept_still (λ r. r.name) slot reads reads' grow_r p.reads (keeps.kept_reads counts);
-  kept_ranges = λ counts. elim (or_cases (length p.ranges == 0) (contains nat_cmp ranged slot) (keeps.kept_ranges counts)) [
-    | inl none ↦ or_left (length p.ranges == 0) (contains nat_cmp ranged' slot) none
-    | inr kept ↦ or_right (length p.ranges == 0) (contains nat_cmp ranged' slot) (grow_g.keeps slot kept)
-  ];
-}
+-- what is kept of reads and of ranges stays so as the sets grow
+readers_still : (counts : Accesses → List ℕ → Bool) (before after : BTreeSet Place) → Grows place_cmp before after → (slot : ℕ) (p : Accesses)
+    → list_all (λ r. not (counts p r.name) || contains place_cmp before (place r.name p.version slot)) p.reads ≡ true
+    → list_all (λ r. not (counts p r.name) || contains place_cmp after (place r.name p.version slot)) p.reads ≡ true
+readers_still counts before after grows slot p kept =
+    all_grow (λ r. not (counts p r.name) || contains place_cmp before (place r.name p.version slot))
+    (λ r. not (counts p r.name) || contains place_cmp after (place r.name p.version slot))
+    (λ r here. elim (or_cases (not (counts p r.name)) (contains place_cmp before (place r.name p.version slot)) here) [
+      | inl out ↦ or_left (not (counts p r.name)) (contains place_cmp after (place r.name p.version slot)) out
+      | inr there ↦ or_right (not (counts p r.name)) (contains place_cmp after (place r.name p.version slot))
+          (grows.keeps (place r.name p.version slot) there)
+    ]) p.reads kept
 
-pub index_grown : (writes reads : BTreeSet Place) (ranged : BTreeSet ℕ) (writes' reads' : BTreeSet Place) (ranged' : BTreeSet ℕ)
-    → Grows place_cmp writes writes' → Grows place_cmp reads reads' → Grows nat_cmp ranged ranged'
-    → (rows : List Row) → IsIndexOf writes reads ranged rows → IsIndexOf writes' reads' ranged' rows
-index_grown writes reads ranged writes' reads' ranged' grow_w grow_r grow_g rows index = record {
-  rise = index.rise;
-  fit = index.fit;
-  keeps = λ k d within. IfSome_then _ (index.keeps k d within)
-      (λ p keeps. keeps_grown writes reads ranged writes' reads' ranged' grow_w grow_r grow_g _ _ _ p keeps);
-}
+ranged_still : (unwritten : Bool) (before after : BTreeSet ℕ) → Grows nat_cmp before after → (slot : ℕ) (p : Accesses)
+    → (not unwritten || ((length p.ranges == 0) || contains nat_cmp before slot)) ≡ true
+    → (not unwritten || ((length p.ranges == 0) || contains nat_cmp after slot)) ≡ true
+ranged_still unwritten before after grows slot p kept =
+    elim (or_cases (not unwritten) ((length p.ranges == 0) || contains nat_cmp before slot) kept) [
+      | inl never ↦ or_left (not unwritten) ((length p.ranges == 0) || contains nat_cmp after slot) never
+      | inr either ↦ or_right (not unwritten) ((length p.ranges == 0) || contains nat_cmp after slot)
+          (elim (or_cases (length p.ranges == 0) (contains nat_cmp before slot) either) [
+            | inl none ↦ or_left (length p.ranges == 0) (contains nat_cmp after slot) none
+            | inr there ↦ or_right (length p.ranges == 0) (contains nat_cmp after slot) (grows.keeps slot there)
+          ])
+    ]
 
--- a row that is kept may be put in its place
-pub index_put : (writes reads : BTreeSet Place) (ranged : BTreeSet ℕ) (rows : List Row) → IsIndexOf writes reads ranged rows
-    → (row : Row) → row.entry.slot < 2 ^ 16 → KeepsRow writes reads ranged row
-    → IsIndexOf writes reads ranged (put_row rows row)
-index_put writes reads ranged rows index row fits keeps =
-    let lower : List Row = filter (λ r. nat_lt r.entry.slot row.entry.slot) rows in
-    let upper : List Row = filter (λ r. nat_lt row.entry.slot r.entry.slot) rows in
-    let fit : Row → Bool = λ r. nat_lt r.entry.slot (2 ^ 16) in
-    record {
-      rise = rise_join lower row upper (rise_filter (λ r. nat_lt r.entry.slot row.entry.slot) rows index.rise)
-          (all_kept (λ r. nat_lt r.entry.slot row.entry.slot) rows)
-          (and_from (list_all (λ r. nat_lt row.entry.slot r.entry.slot) upper) (slots_rise upper)
-          (all_kept (λ r. nat_lt row.entry.slot r.entry.slot) rows)
-          (rise_filter (λ r. nat_lt row.entry.slot r.entry.slot) rows index.rise));
-      fit = list_all-append fit lower (row ∷ upper)
-          ∙ and_from (list_all fit lower) (list_all fit (row ∷ upper)) (all_filter fit (λ r. nat_lt r.entry.slot row.entry.slot) rows index.fit)
-          (and_from (fit row) (list_all fit upper) (lt-ltb row.entry.slot (2 ^ 16) fits) (all_filter fit (λ r. nat_lt row.entry.slot r.entry.slot) rows index.fit));
-      keeps = All-append (KeepsRow writes reads ranged) lower (row ∷ upper)
-          (All-filter (λ r. nat_lt r.entry.slot row.entry.slot) (KeepsRow writes reads ranged) rows index.keeps)
-          (All-cons (KeepsRow writes reads ranged) row upper keeps
-          (All-filter (λ r. nat_lt row.entry.slot r.entry.slot) (KeepsRow writes reads ranged) rows index.keeps));
-    }
+module _ (counts : Accesses → List ℕ → Bool) (unwritten : Bool) where
+  -- an index that has grown keeps what it kept
+  keeps_more : (before after : Kept) → KeepsMore before after → (mark : Mark) (vote : Vote) (slot : ℕ) (p : Accesses)
+      → Keeps counts unwritten before mark vote slot p → Keeps counts unwritten after mark vote slot p
+  keeps_more before after more mark vote slot p keeps = record {
+    formed = keeps.formed;
+    in_writes = λ now. kept_still (λ w. place w.name p.version slot) before.writes after.writes more.writes p.writes (keeps.in_writes now);
+    in_writers = λ now. kept_still (λ w. place w.name p.version slot) before.writers after.writers more.writers p.writes (keeps.in_writers now);
+    in_readers = λ now. readers_still counts before.readers after.readers more.readers slot p (keeps.in_readers now);
+    in_ranged = λ now. ranged_still unwritten before.ranged after.ranged more.ranged slot p (keeps.in_ranged now);
+  }
 
--- what counts of what a row saw with a mark counted before, and would count of any row that may commit
-sight_before : (mark : Mark) (vote : Vote) → sight_counts mark vote ≡ true
-    → (sight_counts mark Commit ≡ true) × (sight_counts Undecided vote ≡ true)
-sight_before Undecided Commit counts = (counts, counts)
-sight_before Undecided (Clash txn) counts = absurd (let no : false ≡ true = counts in cc)
-sight_before Undecided Lost counts = absurd (let no : false ≡ true = counts in cc)
-sight_before Committed vote counts = absurd (let no : false ≡ true = counts in cc)
-sight_before Aborted vote counts = absurd (let no : false ≡ true = counts in cc)
+  -- a row is kept once its writes are, and then what is kept of live rows
+  pub keeps_now : (before after : Kept) → KeepsMore before after → (mark : Mark) (vote : Vote) (slot : ℕ) (p : Accesses)
+      → IsPayload p
+      → (IsTrue (writes_count mark) → IsTrue (all_kept before.writes (λ w. place w.name p.version slot) p.writes))
+      → (IsTrue (is_live mark vote) → IsTrue (all_kept after.writers (λ w. place w.name p.version slot) p.writes))
+      → (IsTrue (is_live mark vote) → IsTrue (list_all (λ r. not (counts p r.name)
+      || contains place_cmp after.readers (place r.name p.version slot)) p.reads))
+      → (IsTrue (is_live mark vote) → IsTrue (not unwritten || ((length p.ranges == 0) || contains nat_cmp after.ranged slot)))
+      → Keeps counts unwritten after mark vote slot p
+  keeps_now before after more mark vote slot p formed writes writers readers ranged = record {
+    formed = formed;
+    in_writes = λ now. kept_still (λ w. place w.name p.version slot) before.writes after.writes more.writes p.writes (writes now);
+    in_writers = writers;
+    in_readers = readers;
+    in_ranged = ranged;
+  }
 
-module _ (writes reads : BTreeSet Place) (ranged : BTreeSet ℕ) (writes' reads' : BTreeSet Place) (ranged' : BTreeSet ℕ)
-    (slot : ℕ) (mark : Mark) (forgets : Forgets slot mark writes reads ranged writes' reads' ranged') where
+  pub index_more : (before after : Kept) → KeepsMore before after → (rows : List Row)
+      → IsIndexOf counts unwritten before rows → IsIndexOf counts unwritten after rows
+  index_more before after more rows index = record {
+    rise = index.rise;
+    fit = index.fit;
+    objects = more.objects index.objects;
+    keeps = λ k d within. IfSome_then _ (index.keeps k d within)
+        (λ p keeps. keeps_more before after more _ _ _ p keeps);
+  }
+
+  -- a row that is kept may be put in its place
+  pub index_put : (kept : Kept) (rows : List Row) → IsIndexOf counts unwritten kept rows
+      → (row : Row) → row.entry.slot < 2 ^ 16 → KeepsRow counts unwritten kept row
+      → IsIndexOf counts unwritten kept (put_row rows row)
+  index_put kept rows index row fits keeps =
+      let lower : List Row = filter (λ r. nat_lt r.entry.slot row.entry.slot) rows in
+      let upper : List Row = filter (λ r. nat_lt row.entry.slot r.entry.slot) rows in
+      let fit : Row → Bool = λ r. nat_lt r.entry.slot (2 ^ 16) in
+      record {
+        rise = rise_join lower row upper (rise_filter (λ r. nat_lt r.entry.slot row.entry.slot) rows index.rise)
+            (all_pass (λ r. nat_lt r.entry.slot row.entry.slot) rows)
+            (and_from (list_all (λ r. nat_lt row.entry.slot r.entry.slot) upper) (slots_rise upper)
+            (all_pass (λ r. nat_lt row.entry.slot r.entry.slot) rows)
+            (rise_filter (λ r. nat_lt row.entry.slot r.entry.slot) rows index.rise));
+        fit = list_all-append fit lower (row ∷ upper)
+            ∙ and_from (list_all fit lower) (list_all fit (row ∷ upper)) (all_filter fit (λ r. nat_lt r.entry.slot row.entry.slot) rows index.fit)
+            (and_from (fit row) (list_all fit upper) (lt-ltb row.entry.slot (2 ^ 16) fits) (all_filter fit (λ r. nat_lt row.entry.slot r.entry.slot) rows index.fit));
+        objects = index.objects;
+        keeps = All-append (KeepsRow counts unwritten kept) lower (row ∷ upper)
+            (All-filter (λ r. nat_lt r.entry.slot row.entry.slot) (KeepsRow counts unwritten kept) rows index.keeps)
+            (All-cons (KeepsRow counts unwritten kept) row upper keeps
+            (All-filter (λ r. nat_lt row.entry.slot r.entry.slot) (KeepsRow counts unwritten kept) rows index.keeps));
+      }
+
+-- a row that is live with a mark was so before, and any row that may commit would be with that mark
+live_before : (mark : Mark) (vote : Vote) → is_live mark vote ≡ true → (is_live mark Commit ≡ true) × (is_live Undecided vote ≡ true)
+live_before Undecided Commit live = (live, live)
+live_before Undecided (Clash txn) live = absurd (let no : false ≡ true = live in cc)
+live_before Undecided Lost live = absurd (let no : false ≡ true = live in cc)
+live_before Committed vote live = absurd (let no : false ≡ true = live in cc)
+live_before Aborted vote live = absurd (let no : false ≡ true = live in cc)
+
+module _ (counts : Accesses → List ℕ → Bool) (unwritten : Bool) (before after : Kept) (slot : ℕ) (mark : Mark)
+    (forgets : Forgets slot mark before after) where
   -- another row is kept as it was
-  keeps_else : (m : Mark) (vote : Vote) (s : ℕ) (p : Accesses) → s ≢ slot → Keeps writes reads ranged m vote s p
-      → Keeps writes' reads' ranged' m vote s p
+  keeps_else : (m : Mark) (vote : Vote) (s : ℕ) (p : Accesses) → s ≢ slot → Keeps counts unwritten before m vote s p
+      → Keeps counts unwritten after m vote s p
   keeps_else m vote s p other keeps = record {
     formed = keeps.formed;
-    kept_writes = λ counts. all_agree (λ w. contains place_cmp writes' (place w.name s)) (λ w. contains place_cmp writes (place w.name s))
-        (λ w. forgets.writes_else.others (place w.name s) other) p.writes ∙ keeps.kept_writes counts;
-    kept_reads = λ counts. all_agree (λ r. contains place_cmp reads' (place r.name s)) (λ r. contains place_cmp reads (place r.name s))
-        (λ r. forgets.reads_else.others (place r.name s) other) p.reads ∙ keeps.kept_reads counts;
-    kept_ranges = λ counts. ap (λ b. (length p.ranges == 0) || b) (forgets.ranged_else.others s other) ∙ keeps.kept_ranges counts;
+    in_writes = λ now. all_agree (λ w. contains place_cmp after.writes (place w.name p.version s)) (λ w. contains place_cmp before.writes (place w.name p.version s))
+        (λ w. forgets.writes_else.others (place w.name p.version s) other) p.writes ∙ keeps.in_writes now;
+    in_writers = λ now. all_agree (λ w. contains place_cmp after.writers (place w.name p.version s)) (λ w. contains place_cmp before.writers (place w.name p.version s))
+        (λ w. forgets.writers_else.others (place w.name p.version s) other) p.writes ∙ keeps.in_writers now;
+    in_readers = λ now. all_agree (λ r. not (counts p r.name) || contains place_cmp after.readers (place r.name p.version s))
+        (λ r. not (counts p r.name) || contains place_cmp before.readers (place r.name p.version s))
+        (λ r. ap (λ b. not (counts p r.name) || b) (forgets.readers_else.others (place r.name p.version s) other)) p.reads ∙ keeps.in_readers now;
+    in_ranged = λ now. ap (λ b. not unwritten || ((length p.ranges == 0) || b)) (forgets.ranged_else.others s other) ∙ keeps.in_ranged now;
   }
 
   -- of the row itself what counts with the mark is kept
-  keeps_there : (vote : Vote) (p : Accesses) → Keeps writes reads ranged Undecided vote slot p
-      → Keeps writes' reads' ranged' mark vote slot p
+  keeps_there : (vote : Vote) (p : Accesses) → Keeps counts unwritten before Undecided vote slot p
+      → Keeps counts unwritten after mark vote slot p
   keeps_there vote p keeps = record {
     formed = keeps.formed;
-    kept_writes = λ counts. kept_still (λ w. w.name) slot writes writes' (forgets.writes_stay counts) p.writes (keeps.kept_writes refl);
-    kept_reads = λ counts. let before = sight_before mark vote counts in
-        kept_still (λ r. r.name) slot reads reads' (forgets.reads_stay before.0) p.reads (keeps.kept_reads before.1);
-    kept_ranges = λ counts. let before = sight_before mark vote counts in
-        elim (or_cases (length p.ranges == 0) (contains nat_cmp ranged slot) (keeps.kept_ranges before.1)) [
-          | inl none ↦ or_left (length p.ranges == 0) (contains nat_cmp ranged' slot) none
-          | inr kept ↦ or_right (length p.ranges == 0) (contains nat_cmp ranged' slot) ((forgets.ranged_stay before.0).keeps slot kept)
-        ];
+    in_writes = λ now. kept_still (λ w. place w.name p.version slot) before.writes after.writes (forgets.writes_stay now) p.writes (keeps.in_writes refl);
+    in_writers = λ now. (let was = live_before mark vote now in
+        kept_still (λ w. place w.name p.version slot) before.writers after.writers (forgets.writers_stay was.0) p.writes (keeps.in_writers was.1));
+    in_readers = λ now. (let was = live_before mark vote now in
+        readers_still counts before.readers after.readers (forgets.readers_stay was.0) slot p (keeps.in_readers was.1));
+    in_ranged = λ now. (let was = live_before mark vote now in
+        ranged_still unwritten before.ranged after.ranged (forgets.ranged_stay was.0) slot p (keeps.in_ranged was.1));
   }
 
-  row_marked : (r : Row) → KeepsRow writes reads ranged r → ((r.entry.slot == slot) ≡ true → r.mark ≡ Undecided)
-      → KeepsRow writes' reads' ranged' (cond (r.entry.slot == slot) (set_mark mark r) r)
+  row_marked : (r : Row) → KeepsRow counts unwritten before r → ((r.entry.slot == slot) ≡ true → r.mark ≡ Undecided)
+      → KeepsRow counts unwritten after (cond (r.entry.slot == slot) (set_mark mark r) r)
   row_marked r keeps only =
-      cond_both (r.entry.slot == slot) (set_mark mark r) r (KeepsRow writes' reads' ranged')
+      cond_both (r.entry.slot == slot) (set_mark mark r) r (KeepsRow counts unwritten after)
       (λ here. IfSome_then r.entry.payload keeps (λ p k.
       let same = eqb-true r.entry.slot slot here in
       let undecided = only here in
-      let before : Keeps writes reads ranged Undecided r.entry.vote slot p =
-      subst (λ s. Keeps writes reads ranged Undecided r.entry.vote s p) same
-      (subst (λ m. Keeps writes reads ranged m r.entry.vote r.entry.slot p) undecided k) in
-      subst (λ m. Keeps writes' reads' ranged' (first_mark m mark) r.entry.vote r.entry.slot p) (sym undecided)
-      (subst (λ s. Keeps writes' reads' ranged' mark r.entry.vote s p) (sym same) (keeps_there r.entry.vote p before))))
+      let was : Keeps counts unwritten before Undecided r.entry.vote slot p =
+      subst (λ s. Keeps counts unwritten before Undecided r.entry.vote s p) same
+      (subst (λ m. Keeps counts unwritten before m r.entry.vote r.entry.slot p) undecided k) in
+      subst (λ m. Keeps counts unwritten after (first_mark m mark) r.entry.vote r.entry.slot p) (sym undecided)
+      (subst (λ s. Keeps counts unwritten after mark r.entry.vote s p) (sym same) (keeps_there r.entry.vote p was))))
       (λ past. IfSome_then r.entry.payload keeps (λ p k. keeps_else r.mark r.entry.vote r.entry.slot p (eqb-false r.entry.slot slot past) k))
 
   slot_stays : (r : Row) → (cond (r.entry.slot == slot) (set_mark mark r) r).entry.slot ≡ r.entry.slot
@@ -204,12 +247,13 @@ module _ (writes reads : BTreeSet Place) (ranged : BTreeSet ℕ) (writes' reads'
         ]
       ]
 
-  pub index_marked : (rows : List Row) → IsIndexOf writes reads ranged rows → (row : Row) → Contains rows row
-      → row.entry.slot ≡ slot → row.mark ≡ Undecided → IsIndexOf writes' reads' ranged' (marked rows slot mark)
+  pub index_marked : (rows : List Row) → IsIndexOf counts unwritten before rows → (row : Row) → Contains rows row
+      → row.entry.slot ≡ slot → row.mark ≡ Undecided → IsIndexOf counts unwritten after (marked rows slot mark)
   index_marked rows index row there same undecided = record {
     rise = rise_marked rows ∙ index.rise;
     fit = fit_marked rows ∙ index.fit;
-    keeps = All-map (KeepsRow writes' reads' ranged') (λ x. cond (x.entry.slot == slot) (set_mark mark x) x) rows
+    objects = forgets.objects index.objects;
+    keeps = All-map (KeepsRow counts unwritten after) (λ x. cond (x.entry.slot == slot) (set_mark mark x) x) rows
         (λ k d within. row_marked (get_or rows k d) (index.keeps k d within)
         (only_that rows index.rise row there same undecided k d within));
   }

@@ -64,3 +64,9 @@ pub settles_each : {X : Type 0} (clash : ℕ → Bool) (step : X → Option ℕ 
     → Settles clash (λ best. fold (λ b x. step x b) best xs) (λ s. list_any (λ x. looked x s) xs)
 settles_each clash step looked h [] = settles_none clash
 settles_each clash step looked h (x ∷ xs) = settles_then (h x) (settles_each clash step looked h xs)
+
+-- a step that is taken or left out
+pub settles_if : {step : Option ℕ → Option ℕ} {looked : ℕ → Bool} (clash : ℕ → Bool) (b : Bool) → Settles clash step looked
+    → Settles clash (λ best. cond b (step best) best) (λ s. b && looked s)
+settles_if clash true settles = settles
+settles_if clash false settles = settles_none clash

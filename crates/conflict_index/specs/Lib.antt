@@ -1,6 +1,4 @@
 pub mod Candidates
 pub mod Keeping
-pub mod Apart
 pub mod Slots
 pub mod Change
-pub mod RulesApart

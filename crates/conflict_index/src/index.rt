@@ -1,65 +1,48 @@
-//! The guard that looks up which rows touch a payload.
-ghost use Rattle.std.specs.Prelude.{◌≡◌};
-ghost use Rattle.conflict_index.specs.Apart.{PassesApart};
+//! The guard that looks up which rows stand in a payload's way.
+ghost use Rattle.std.specs.Prelude.{◌≡◌, IsTrue};
 ghost use Rattle.conflict_index.specs.Candidates.{vote_at};
 ghost use Rattle.conflict_index.specs.Keeping.{IsIndexOf, slots_rise};
-ghost use Rattle.std.specs.Prelude.{IsTrue};
 
-use crate::lookups::lowest_touching;
-use crate::places::Place;
+use crate::kept::Kept;
+use crate::lookups::lowest_in_way;
 use crate::row_search::row_at;
 use crate::row_sets::{forget_row, keep_row};
 use std::alloc::Global;
-use std::collections::BTreeSet;
 use std::marker::PhantomData;
-use tcs_laws::{Certifier, VoteGuard};
+use tcs_laws::{BySight, VoteGuard};
 use tcs_terms::{Mark, OutOfMemory, Payload, Row, Slot, Vote};
 
-/// A certifier for which an index serves: payloads refuse each other only where one writes what the other one saw.
-pub trait Indexable: Certifier {
-    ghost passes_apart: { PassesApart Self.tests };
-}
-
-/// A guard that keeps, in the order of names, the slots of the rows that write each object and of those that read it,
-/// while that counts, and the slots of the rows with ranges. A vote looks only at rows that touch the payload.
+/// A guard that keeps, in the order of names, which live rows write and read each object, and by version which rows
+/// wrote it. A vote looks at the live rows that touch the payload, and at those that wrote an object above the version
+/// that the payload saw: where it is to commit there are none of these, however many rows wrote the object.
 #[derive(Debug, Drop)]
 pub struct ConflictIndex<C> {
-    writes: BTreeSet<Place>,
-    reads: BTreeSet<Place>,
-    ranged: BTreeSet<Slot>,
+    kept: Kept,
     rule: PhantomData<C>,
 }
 
-impl<C: Indexable> VoteGuard for ConflictIndex<C> {
+impl<C: BySight> VoteGuard for ConflictIndex<C> {
     type Rule = C;
 
-    ghost StandsFor = { λ index rows. IsIndexOf index.writes index.reads index.ranged rows };
+    ghost StandsFor = { λ index rows. IsIndexOf C.counts C.COUNTS_UNWRITTEN index.kept rows };
 
     fn fresh(alloc: Global) -> Self {
         ConflictIndex {
-            writes: BTreeSet::new(alloc),
-            reads: BTreeSet::new(alloc),
-            ranged: BTreeSet::new(alloc),
+            kept: Kept::new(alloc),
             rule: PhantomData,
         }
     }
 
     fn prepared(&mut self, row: &Row) -> Result<(), OutOfMemory> {
-        keep_row(&mut self.writes, &mut self.reads, &mut self.ranged, row)
+        keep_row::<C>(&mut self.kept, row)
     }
 
     fn decided(&mut self, row: &Row, mark: Mark) {
-        forget_row(
-            &mut self.writes,
-            &mut self.reads,
-            &mut self.ranged,
-            row,
-            mark,
-        );
+        forget_row(&mut self.kept, row, mark);
     }
 
     fn vote(&self, rows: &[Row], new: &Payload) -> Vote {
-        let lowest = lowest_touching::<C>(&self.writes, &self.reads, &self.ranged, rows, new);
+        let lowest = lowest_in_way::<C>(&self.kept, rows, new);
         vote_at(rows, lowest)
     }
 }

@@ -3,6 +3,7 @@
 
 mod candidates;
 mod index;
+mod kept;
 mod lookups;
 mod place_sets;
 mod places;
@@ -10,7 +11,7 @@ mod row_search;
 mod row_sets;
 mod rules;
 
-pub use index::{ConflictIndex, Indexable};
+pub use index::ConflictIndex;
 pub use rules::{CommuteIndex, SerialIndex, SnapshotIndex};
 
 #[cfg(test)]

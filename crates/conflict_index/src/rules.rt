@@ -1,7 +1,6 @@
-//! The rules for which an index serves.
-ghost use Rattle.conflict_index.specs.RulesApart.{serial_apart, snapshot_apart, commute_apart};
+//! The index with each of the three rules.
 
-use crate::index::{ConflictIndex, Indexable};
+use crate::index::ConflictIndex;
 use cert_commute::Commute;
 use cert_serial::Serial;
 use cert_snapshot::Snapshot;
@@ -12,15 +11,3 @@ pub type SerialIndex = ConflictIndex<Serial>;
 pub type SnapshotIndex = ConflictIndex<Snapshot>;
 /// The index with the rule in which additions commute.
 pub type CommuteIndex = ConflictIndex<Commute>;
-
-impl Indexable for Serial {
-    ghost passes_apart = { serial_apart };
-}
-
-impl Indexable for Snapshot {
-    ghost passes_apart = { snapshot_apart };
-}
-
-impl Indexable for Commute {
-    ghost passes_apart = { commute_apart };
-}

@@ -2,13 +2,13 @@
 ghost use Rattle.std.specs.Prelude.{◌≡◌, IfOk};
 ghost use Rattle.tcs_terms.specs.declared.logs.Mark.TheVariants.{Undecided};
 
-use crate::{ConflictIndex, Indexable};
+use crate::ConflictIndex;
 use cert_commute::Commute;
 use cert_serial::Serial;
 use cert_snapshot::Snapshot;
 use std::alloc::Global;
 use std::test::Fail;
-use tcs_laws::VoteGuard;
+use tcs_laws::{BySight, VoteGuard};
 use tcs_terms::{
     Entry, Mark, Name, Payload, RangePart, ReadPart, Row, ShardSet, TxId, Value, Vote, WritePart,
 };
@@ -71,7 +71,7 @@ fn other_rules_have_their_votes(rt: HostRuntime) -> Result<(), Fail> {
 }
 
 /// The votes on a payload over one row, undecided and with a mark.
-fn votes_over<C: Indexable>(
+fn votes_over<C: BySight>(
     alloc: Global,
     row: Row,
     new: &Payload,

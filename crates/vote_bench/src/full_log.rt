@@ -1,4 +1,4 @@
-//! A full log, and a guard that stands for it.
+//! A log of committed transactions, and a guard that stands for it.
 ghost use Rattle.std.specs.Prelude.{◌≡◌, ◌<◌, ℕ, [], IfOk, OnOk, IsTrue};
 ghost use Rattle.conflict_index.specs.Slots.{slots_below};
 
@@ -8,21 +8,19 @@ use std::alloc::Global;
 use tcs_laws::VoteGuard;
 use tcs_terms::{Entry, Mark, Row, ShardSet, Slot, TxId, Vote};
 
-/// The rows of a full log.
-const FULL: Slot = 4096;
-
-/// Fills a log with committed transactions on so many objects.
+/// Fills a log with so many committed transactions on so many objects.
 pub fn fill<G: VoteGuard>(
     alloc: Global,
     rows: &mut Vec<Row>,
     guard: &mut G,
+    length: Slot,
     objects: u32,
 ) -> Result<(), Error>
     requires empty { rows.old.items ≡ [] }
     requires stands { G.StandsFor guard.old rows.old.items }
     ensures { OnOk result (G.StandsFor guard.new rows.new.items) }
 {
-    for before in 0..FULL {
+    for before in 0..length {
         let row = row(alloc, before + 1, objects)?;
         put(rows, guard, row)?;
     }
@@ -41,7 +39,7 @@ fn put<G: VoteGuard>(rows: &mut Vec<Row>, guard: &mut G, row: Row) -> Result<(),
     Ok(())
 }
 
-/// The row of a committed transaction, which nothing had been written before.
+/// The row of a committed transaction: its version is its slot, and it saw what was committed before.
 fn row(alloc: Global, slot: Slot, objects: u32) -> Result<Row, Error>
     ensures { IfOk result (λ r. r.entry.slot ≡ slot) }
 {
@@ -50,7 +48,7 @@ fn row(alloc: Global, slot: Slot, objects: u32) -> Result<Row, Error>
         slot,
         txn: TxId { home: 1, seq },
         shards: ShardSet::build([1u8].to_vec(alloc)?)?,
-        payload: Some(payload(alloc, seq, objects, 0)?),
+        payload: Some(payload(alloc, seq, objects, seq.saturating_sub(1))?),
         vote: Vote::Commit,
     };
     Ok(Row {

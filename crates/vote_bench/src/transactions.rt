@@ -1,4 +1,5 @@
 //! What the transactions of the log read and write, and those that are voted on.
+ghost use Rattle.std.specs.Prelude.{◌<◌};
 
 use anyhow::Error;
 use std::alloc::Global;
@@ -7,11 +8,17 @@ use tcs_terms::{Name, Payload, ReadPart, Value, WritePart};
 /// The objects that each transaction reads and writes.
 const OBJECTS_EACH: u32 = 4;
 
-/// The payload of a transaction that reads and writes four objects of so many, which it saw at `seen`. Those of
-/// successive numbers go through all objects in turn.
+/// The groups of objects: each transaction is about one of them.
+pub fn groups(objects: u32) -> u32
+    ensures { 0 < result }
+{
+    (objects / OBJECTS_EACH).max(1)
+}
+
+/// The payload of a transaction that reads and writes four objects of so many, which it saw at the version `seen`. Its
+/// own version is the next. Those of successive numbers go through all objects in turn.
 pub fn payload(alloc: Global, number: u32, objects: u32, seen: u32) -> Result<Payload, Error> {
-    let groups = (objects / OBJECTS_EACH).max(1);
-    let group = number % groups;
+    let group = number % groups(objects);
     let mut reads = Vec::new(alloc);
     let mut writes = Vec::new(alloc);
     for i in 0..OBJECTS_EACH {

@@ -9,5 +9,5 @@ use Rattle.conflict_index.proofs.place_sets.forget_writes.Given as goal
 abbrev pub invariant-loop-w : goal.invariant-loop-w
 invariant-loop-w l = record {
   changes : ChangesSlot l.slot l.initial.places l.places;
-  gone : IsTrue (list_all (λ part. not (contains place_cmp l.places (place part.name l.slot))) (take l.w-index l.parts));
+  gone : IsTrue (list_all (λ part. not (contains place_cmp l.places (place part.name l.version l.slot))) (take l.w-index l.parts));
 }

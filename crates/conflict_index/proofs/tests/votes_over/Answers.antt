@@ -22,7 +22,7 @@ vote-before-requires g c = c.in_ok-prepared.ensures.put [] c.fresh-index.ensures
 pub vote-after-requires : goal.vote-after-requires
 vote-after-requires g c =
     let after : List Row → Type 0 =
-    λ rows. IsIndexOf c.decided.new.self.writes c.decided.new.self.reads c.decided.new.self.ranged rows in
+    λ rows. IsIndexOf g.C.BySight.counts g.C.BySight.COUNTS_UNWRITTEN c.decided.new.self.kept rows in
     let row = c.args.row in
     let stood = c.in_ok-prepared.ensures.put [] c.fresh-index.ensures refl in
     let there : Contains (row ∷ []) row = (0, omega arith, refl) in

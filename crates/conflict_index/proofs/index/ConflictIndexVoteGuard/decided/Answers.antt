@@ -5,4 +5,4 @@ use Rattle.conflict_index.proofs.index.ConflictIndexVoteGuard.decided.Goals as g
 
 pub returns : goal.returns
 returns g c = λ rows index there undecided.
-    index_marked _ _ _ _ _ _ c.args.row.now.entry.slot c.args.mark c.forget_row.ensures.others rows index c.args.row.now there refl undecided
+    index_marked _ _ _ _ c.args.row.now.entry.slot c.args.mark c.forget_row.ensures.others rows index c.args.row.now there refl undecided

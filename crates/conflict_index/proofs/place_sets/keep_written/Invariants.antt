@@ -1,0 +1,12 @@
+use Rattle.std.proofs.Common.{take}
+use Rattle.std.specs.Prelude.{IsTrue}
+use Rattle.conflict_index.specs.Change.{Grows}
+use Rattle.conflict_index.specs.Keeping.{place, place_cmp, all_kept, AreObjectsOf}
+use Rattle.conflict_index.proofs.place_sets.keep_written.Given as goal
+
+abbrev pub invariant-loop-w : goal.invariant-loop-w
+invariant-loop-w l = record {
+  objects : AreObjectsOf l.initial.objects l.initial.places → AreObjectsOf l.objects l.places;
+  grows : Grows place_cmp l.initial.places l.places;
+  kept : IsTrue (all_kept l.places (λ part. place part.name l.version l.slot) (take l.w-index l.parts));
+}
