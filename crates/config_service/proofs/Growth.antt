@@ -98,9 +98,9 @@ index_grows : (cs : List Membership) (c last : Membership) (index : List (List �
     → last_or None (of_shard cs c.shard) ≡ Some last → c.epoch ≡ last.epoch + 1 → IsMembership c
     → IsIndex (cs ++ c ∷ []) (slice_set index c.shard (places_of index c.shard ++ length cs ∷ []))
 index_grows cs c last index h lt e next one = record {
-      each = λ shard. go shard (shard == c.shard) refl;
-      formed = All-push IsMembership cs c h.formed one;
-    } where
+  each = λ shard. go shard (shard == c.shard) refl;
+  formed = All-push IsMembership cs c h.formed one;
+} where
   w : List ℕ
   w = places_of index c.shard ++ length cs ∷ []
 

@@ -109,7 +109,11 @@ fn a_proposal_has_three_answers(rt: HostRuntime) -> Result<(), Fail> {
         (2, 1, CasAnswer::Ahead(0)),
     ] {
         let config = Config::build(shard, epoch, vec![in alloc; 1, 3]?, 1, 2)?;
-        assert_eq!(rt; service.cas(config)?, answer, "shard {shard}, epoch {epoch}");
+        assert_eq!(rt;
+            service.cas(config)?,
+            answer,
+            "shard {shard}, epoch {epoch}"
+        );
     }
     assert_eq!(rt; service.configs().len(), 2);
     Ok(())

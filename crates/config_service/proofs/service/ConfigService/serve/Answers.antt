@@ -29,4 +29,4 @@ pub returns-clause-unchanged : goal.returns-clause-unchanged
 returns-clause-unchanged c =
     let law = serve-refused c.args.nodes c.args.self.now c.args.from c.args.message.now in
     held c.hear.result c.args.self.now c.hear.new.self (serve c.args.nodes c.args.self.now c.args.from c.args.message.now)
-        c.hear.ensures.answer c.hear.ensures.kept (λ refused. (law refused).kept)
+    c.hear.ensures.answer c.hear.ensures.kept (λ refused. (law refused).kept)
