@@ -64,7 +64,7 @@ fn a_promise_is_for_its_own_epoch(rt: HostRuntime) -> Result<(), Fail> {
     let mut sent = Vec::new(alloc);
     node.probe(alloc, 2, 2, &mut sent)?;
     assert!(rt; node.role().is_fenced());
-    let answer = node.new_config(alloc, 1, config(alloc, 3, 1)?, &mut sent)?;
+    let answer = node.new_config(alloc, Version::One, config(alloc, 3, 1)?, &mut sent)?;
     assert_eq!(rt; (answer, sent.len()), (Handled::Held(2), 1));
     Ok(())
 }
