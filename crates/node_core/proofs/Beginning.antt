@@ -1,6 +1,6 @@
 -- A node as it begins.
 use Rattle.std.proofs.Common.{◌≡◌, ℕ, Bool, true, false, cond, List, [], ◌∷◌, Some, refl}
-use Rattle.std.specs.Prelude.{◌==◌, ◌&&◌, All, IsTrue}
+use Rattle.std.specs.Prelude.{◌==◌, All, IsTrue}
 use Rattle.std.specs.List.{list_all}
 use Rattle.std.proofs.lemmas.Bool.{and_parts}
 use Rattle.tcs_terms.specs.Places.{Membership, IsMembership, is_node, is_shard}

@@ -1,5 +1,5 @@
 -- Whatever a node does, it has no case open of a transaction that it is to make yet.
-use Rattle.std.proofs.Common.{◌≡◌, ℕ, ◌+◌, Bool, true, false, not, ◌||◌, List, [], ◌∷◌, Option, None, refl, arith}
+use Rattle.std.proofs.Common.{◌≡◌, ℕ, ◌+◌, Bool, true, false, not, ◌||◌, List, [], ◌∷◌, None, refl, arith}
 use Rattle.std.specs.Prelude.{◌==◌, nat_lt}
 use Rattle.std.specs.List.{list_all}
 use Rattle.std.specs.Map.{lookup}
@@ -62,6 +62,7 @@ pub next_absent : (node : NodeRecord) → list_all (λ e. may_exist node e.0) no
 next_absent node h = absent node.coordinator.cases h where
   differs : (t : TxId) → may_exist node t ≡ true → same_txn (next_txn node) t ≡ false
   differs t exists = grind (arith, nat_tests)
+
   absent : (es : List (TxId × Case)) → list_all (λ e. may_exist node e.0) es ≡ true → lookup (same_txn (next_txn node)) es ≡ None
   absent [] h = refl
   absent (e ∷ es) h = rw (differs e.0 (left_of (may_exist node e.0) _ h)) (absent es (right_of (may_exist node e.0) _ h))

@@ -1,5 +1,5 @@
 -- What a node hears, and the notice to who sent it.
-use Rattle.std.proofs.Common.{◌≡◌, ℕ, Bool, true, false, cond, List, [], ◌∷◌, ◌++◌, Option, refl, sym, ◌∙◌, ap, append_assoc, append-nil}
+use Rattle.std.proofs.Common.{◌≡◌, ℕ, Bool, true, false, cond, List, [], ◌∷◌, ◌++◌, refl, sym, ◌∙◌, ap, append_assoc, append-nil}
 use Rattle.tcs_terms.specs.declared.ids.TxId.{TxId}
 use Rattle.tcs_terms.specs.declared.inputs.Handled.{Handled}
 use Rattle.tcs_terms.specs.declared.inputs.Handled.TheVariants.{Acted, Stale, Held, Full}
@@ -21,7 +21,7 @@ use Rattle.protocol.specs.Outcomes.{Out}
 use Rattle.protocol.specs.Records.{Piece, NodeRecord}
 use Rattle.protocol.specs.ShardRules.{on_decision, on_new_state, on_state_piece}
 use Rattle.protocol.specs.Table.{on_outcome, receive, step}
-use Rattle.protocol_laws.specs.Effect.{is_answered, notices_to, notices_for, Effect, Certifies, TakesOver, Reads, Votes, Acknowledges}
+use Rattle.protocol_laws.specs.Effect.{is_answered, notices_to, Effect, Certifies, TakesOver, Reads, Votes, Acknowledges}
 use Rattle.protocol_laws.proofs.EffectOf.{effect_of}
 use Rattle.protocol_laws.proofs.RefusedInputs.{step-refused}
 use Rattle.node_core.specs.Hearing.{hear}
@@ -78,6 +78,7 @@ notice_last : (message : Message) (answer : Handled) (from mark : ℕ) (sends : 
 notice_last message answer from mark sends refused = go (is_answered message) answer refused where
   rests : (front : List Outgoing) → sends ≡ [] → sends ++ front ≡ front ++ sends
   rests front none = rw none (sym (append-nil front))
+
   go : (b : Bool) (told : Handled) → (has_acted (results.Node told) ≡ false → sends ≡ [])
       → sends ++ cond b (notice_of told from (kind_of message) mark) [] ≡ cond b (notice_of told from (kind_of message) mark) [] ++ sends
   go true Acted refused = append-nil sends

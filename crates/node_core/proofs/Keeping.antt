@@ -1,6 +1,6 @@
 -- Each step leaves a node of which all is true that is true between steps.
 use Rattle.std.proofs.Common.{◌≡◌, ℕ, Bool, true, false}
-use Rattle.std.specs.Prelude.{nat_le, ◌≤◌, IsTrue}
+use Rattle.std.specs.Prelude.{nat_le, ◌≤◌}
 use Rattle.std.proofs.Common.{arith}
 use Rattle.std.proofs.lemmas.Bool.{and_parts}
 use Rattle.std.proofs.lemmas.Bool.Decides.{nat_tests}

@@ -1,5 +1,5 @@
 -- Keys of a map: what holds of each, whatever becomes of the values.
-use Rattle.std.proofs.Common.{◌≡◌, Bool, true, cond, ◌&&◌, List, [], ◌∷◌, ◌++◌, map, false, refl}
+use Rattle.std.proofs.Common.{◌≡◌, Bool, true, cond, List, [], ◌∷◌, ◌++◌, map, false, refl}
 use Rattle.std.specs.List.{list_all}
 use Rattle.std.specs.Map.{set_value, remove_entry}
 use Rattle.tcs_terms.proofs.BoolLaws.{both, left_of, right_of}

@@ -1,5 +1,5 @@
 -- STORED, by whether the prober awaits it.
-use Rattle.std.proofs.Common.{◌≡◌, Bool, true, false, ◌++◌, refl, append-nil, sym}
+use Rattle.std.proofs.Common.{◌≡◌, Bool, true, false, ◌++◌, refl, append-nil}
 use Rattle.tcs_terms.specs.declared.inputs.Handled.TheVariants.{Acted}
 use Rattle.tcs_terms.specs.Places.{Membership}
 use Rattle.protocol.specs.Choices.{when}

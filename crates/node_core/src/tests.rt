@@ -33,13 +33,7 @@ fn begin(alloc: Global, name: NodeId, members: &[NodeId]) -> Result<Scanning, Fa
     requires { IsTrue (is_node name) }
 {
     let config = Config::build(1, 1, Vec::from_slice(alloc, members)?, 1, 0)?;
-    Ok(Scanning::first(
-        alloc,
-        Version::One,
-        name,
-        1,
-        vec![in alloc; config]?,
-    )?)
+    Ok(Scanning::first(alloc, Version::One, name, 1, vec![in alloc; config]?)?)
 }
 
 /// The node hears a message.

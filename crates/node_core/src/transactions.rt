@@ -49,7 +49,9 @@ impl<G: VoteGuard> Parts<G> {
     fn may_take(&self, row: &Row, txn: TxId) -> bool
         ensures { result ≡ (is_undecided row.now.mark && is_none (case_of self.now.coordinator txn) && may_exist self.now txn) }
     {
-        matches!(row.mark, Mark::Undecided) && !self.coordinator.has_case(txn) && self.may_exist(txn)
+        matches!(row.mark, Mark::Undecided)
+            && !self.coordinator.has_case(txn)
+            && self.may_exist(txn)
     }
 
     /// A transaction that a row holds undecided, and of which the node has no case, is taken over.

@@ -1,5 +1,5 @@
 -- STORED, by whether the prober awaits it.
-use Rattle.std.proofs.Common.{◌≡◌, refl, sym, ◌∙◌, ap, append_assoc}
+use Rattle.std.proofs.Common.{refl, sym, ◌∙◌, ap, append_assoc}
 use Rattle.std.proofs.lemmas.Result.{on_ok_weaker}
 use Rattle.protocol.specs.Coordination.{on_config}
 use Rattle.node_core.specs.Parts.{node_of}

@@ -1,7 +1,7 @@
 -- What the rules of clients leave as it was.
 use Rattle.std.proofs.Common.{◌≡◌, List, [], ◌++◌, Result, Ok, Err, OnOk, refl, sym, ap, append-nil}
 use Rattle.std.proofs.lemmas.Result.{on_ok_weaker}
-use Rattle.protocol.specs.ClientRules.{nudge, move, go_lower, ask}
+use Rattle.protocol.specs.ClientRules.{nudge, move, ask}
 use Rattle.protocol.specs.Probing.{start_move}
 use Rattle.protocol.specs.Table.{step}
 use Rattle.node_core.specs.Parts.{node_of}
