@@ -16,14 +16,14 @@ done
 echo "snippet: cert_log follower_part leader_part tcs_laws tcs_terms" >> "$work/crates.txt"
 
 failed=0
-for snippet in "$top"/tests/must-not-compile/*.rt; do
+for snippet in "$top"/tests/must-not-compile/*.snippet; do
   cause=$(sed -n '1s|^//! refused: ||p' "$snippet")
   cp "$snippet" "$work/crates/snippet/src/lib.rt"
   said=$(cd "$work/crates/snippet" && rt check --only= 2>&1 | grep '^src/lib.rt:.*error\[')
   if [ -n "$cause" ] && [ "$(wc -l <<< "$said")" -eq 1 ] && grep -qF "$cause" <<< "$said"; then
-    echo "refused: $(basename "$snippet" .rt)"
+    echo "refused: $(basename "$snippet" .snippet)"
   else
-    echo "FAILED: $(basename "$snippet" .rt): not refused for '$cause' alone: $said"
+    echo "FAILED: $(basename "$snippet" .snippet): not refused for '$cause' alone: $said"
     failed=$((failed + 1))
   fi
 done
