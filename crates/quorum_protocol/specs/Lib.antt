@@ -1,0 +1,4 @@
+pub mod Ballots
+pub mod Rules
+pub mod World
+pub mod Theorem
