@@ -1,1 +1,16 @@
 pub mod Standing
+pub mod Tables
+pub mod BallotLaws
+pub mod Majorities
+pub mod Invariant
+pub mod Kept
+pub mod Turns
+pub mod Carried
+pub mod PutHere
+pub mod Lasting
+pub mod Acceptors
+pub mod Changing
+pub mod Hearing
+pub mod Telling
+pub mod Learning
+pub mod Events

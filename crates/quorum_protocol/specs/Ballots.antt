@@ -1,5 +1,5 @@
 -- Ballots and their order, places, and lists of pairs that are read and written by key.
-use Rattle.std.specs.Prelude.{ℕ, ◌+◌, ◌==◌, ◌&&◌, ◌||◌, Bool, nat_lt, nat_le, if◌then◌else◌, List, [], ◌∷◌, length, Option, Some, None}
+use Rattle.std.specs.Prelude.{ℕ, ◌+◌, ◌==◌, ◌&&◌, ◌||◌, Bool, nat_lt, nat_le, if◌then◌else◌, List, [], ◌∷◌, Option, Some, None}
 use Rattle.quorum_protocol.specs.declared.terms.Ballot.{Ballot}
 use Rattle.quorum_protocol.specs.declared.terms.Place.{Place}
 use Rattle.quorum_protocol.specs.declared.terms.Knows.{Knows}

@@ -1,12 +1,12 @@
 -- What an acceptor and a proposer do with a message: the rules, one after the other.
-use Rattle.std.specs.Prelude.{ℕ, zero, suc, ◌+◌, ◌==◌, ◌&&◌, ◌||◌, not, Bool, true, false, nat_lt, nat_le, if◌then◌else◌, List, [], ◌∷◌, ◌++◌, length, map, Option, Some, None}
+use Rattle.std.specs.Prelude.{ℕ, ◌==◌, ◌&&◌, Bool, true, false, if◌then◌else◌, List, [], ◌∷◌, ◌++◌, length, map, Option, Some, None}
 use Rattle.std.specs.List.{range_with_len}
 use Rattle.tcs_terms.specs.Places.{Membership, is_among}
 use Rattle.quorum_protocol.specs.declared.terms.Ballot.{Ballot}
 use Rattle.quorum_protocol.specs.declared.terms.Accepted.{Accepted}
 use Rattle.quorum_protocol.specs.declared.terms.Message.{Message}
 use Rattle.quorum_protocol.specs.declared.terms.Say.{Say}
-use Rattle.quorum_protocol.specs.declared.terms.Say.TheVariants.{Ask, Told, Put, Kept}
+use Rattle.quorum_protocol.specs.declared.terms.Say.TheVariants.{Put}
 use Rattle.quorum_protocol.specs.Ballots.{same_ballot, ballot_le, is_majority}
 
 -- ---- an attempt of a proposer

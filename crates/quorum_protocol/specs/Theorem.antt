@@ -1,5 +1,5 @@
 -- What holds of every run.
-use Rattle.std.specs.Prelude.{◌≡◌, ◌⊎◌, ℕ, ◌+◌, ◌<◌, List, [], ◌∷◌, Option, Some, None}
+use Rattle.std.specs.Prelude.{◌≡◌, ◌⊎◌, ℕ, ◌+◌, ◌<◌, List, [], ◌∷◌, Option, Some}
 use Rattle.tcs_terms.specs.Places.{Membership}
 use Rattle.quorum_protocol.specs.declared.terms.Event.{Event}
 use Rattle.quorum_protocol.specs.declared.terms.Event.TheVariants.{Cas}

@@ -1,5 +1,5 @@
 -- A run's world, its events, and what each of them comes to.
-use Rattle.std.specs.Prelude.{ℕ, ◌+◌, ◌-◌, ◌==◌, ◌&&◌, Bool, nat_lt, if◌then◌else◌, List, [], ◌∷◌, ◌++◌, length, Option, Some, None, slice_get, nat_eq}
+use Rattle.std.specs.Prelude.{ℕ, ◌+◌, ◌-◌, ◌==◌, ◌&&◌, nat_lt, if◌then◌else◌, List, [], ◌∷◌, ◌++◌, Option, Some, None, slice_get, nat_eq}
 use Rattle.tcs_terms.specs.Places.{Membership, is_among}
 use Rattle.quorum_protocol.specs.declared.terms.Ballot.{Ballot}
 use Rattle.quorum_protocol.specs.declared.terms.Accepted.{Accepted}
@@ -14,8 +14,8 @@ use Rattle.quorum_protocol.specs.declared.terms.Outcome.{Outcome}
 use Rattle.quorum_protocol.specs.declared.terms.Outcome.TheVariants.{Acted, Held, Stale, Gone, Unsent}
 use Rattle.quorum_protocol.specs.declared.terms.Stored.{Stored}
 use Rattle.quorum_protocol.specs.Ballots.{ballot_le, no_ballot, same_place, same_knows, get, put, or_else}
-use Rattle.quorum_protocol.specs.Rules.{Stage, Attempt, message, answer, to_all, after_told, after_kept, puts, learns, is_asking, is_putting, is_of}
-use Rattle.quorum_protocol.specs.Rules.Stage.{Asking, Ended}
+use Rattle.quorum_protocol.specs.Rules.{Stage, Attempt, answer, to_all, after_told, after_kept, puts, learns, is_asking, is_putting, is_of}
+use Rattle.quorum_protocol.specs.Rules.Stage.{Asking}
 
 -- How many acceptors there are, numbered from 1; which ballot each promised and which pair it accepted last, for a
 -- shard and epoch; the last attempt of each proposer, and the greatest epoch of a shard that it knows; the messages
