@@ -48,8 +48,11 @@ module _ (w : World) (es : List Event) (notes : List Stored) (i : Invariant w es
 
   ask_grows : Grows w after_ask
   ask_grows = record {
-    acceptors = refl; messages = λ k s. stands_front w.messages _ k s; promises = promise_rises w (place_at m) m.ballot high;
-    accepted = λ q b h. h; rounds = λ p. omega arith;
+    acceptors = refl;
+    messages = λ k s. stands_front w.messages _ k s;
+    promises = promise_rises w (place_at m) m.ballot high;
+    accepted = λ q b h. h;
+    rounds = λ p. omega arith;
   }
 
   -- what it tells covers what it kept before
@@ -60,8 +63,9 @@ module _ (w : World) (es : List Event) (notes : List Stored) (i : Invariant w es
     put = λ x h. put_on w after_ask ask_grows m.shard m.epoch x.ballot x.config (i.accepted (place_at m) x h).put;
     below = λ x h. le_trans _ _ _ (i.accepted (place_at m) x h).promised high;
     covers = λ k s h j l. elim (stands_either w.messages _ k s) [
-        inl o ↦ subst (λ (q : Place). Covers (accepted_of w q) k.ballot) j (kept_old k o h).accepted
-      | inr n ↦ absurd (told_not_kept (accepted_of w (place_at m)) (say_is m k _ _ (only _ k n) h)) ];
+      | inl o ↦ subst (λ (q : Place). Covers (accepted_of w q) k.ballot) j (kept_old k o h).accepted
+      | inr n ↦ absurd (told_not_kept (accepted_of w (place_at m)) (say_is m k _ _ (only _ k n) h))
+    ];
   }
     where
       kept_old : (k : Message) → StandsIn k w.messages → k.say ≡ Kept → KeptFits w k
@@ -92,17 +96,21 @@ module _ (w : World) (es : List Event) (notes : List Stored) (i : Invariant w es
 
     accepted_rises : (q : Place) (b : Ballot) → Covers (accepted_of w q) b → Covers (accepted_of after_put q) b
     accepted_rises q b h = elim (accepted_after q) [
-        inl p ↦ record {
-          one = record { ballot = m.ballot; config = config };
-          is = p.1;
-          above = le_trans b h.one.ballot m.ballot h.above (le_trans h.one.ballot (promise_of w q) m.ballot (i.accepted q h.one h.is).promised (subst (λ (z : Place). Le (promise_of w z) m.ballot) (sym p.0) high));
-        }
-      | inr p ↦ subst (λ (o : Option Accepted). Covers o b) (sym p) h ]
+      | inl p ↦ record {
+        one = record { ballot = m.ballot; config = config };
+        is = p.1;
+        above = le_trans b h.one.ballot m.ballot h.above (le_trans h.one.ballot (promise_of w q) m.ballot (i.accepted q h.one h.is).promised (subst (λ (z : Place). Le (promise_of w z) m.ballot) (sym p.0) high));
+      }
+      | inr p ↦ subst (λ (o : Option Accepted). Covers o b) (sym p) h
+    ]
 
     put_grows : Grows w after_put
     put_grows = record {
-      acceptors = refl; messages = λ k s. stands_front w.messages _ k s; promises = promise_rises w (place_at m) m.ballot high;
-      accepted = accepted_rises; rounds = λ p. omega arith;
+      acceptors = refl;
+      messages = λ k s. stands_front w.messages _ k s;
+      promises = promise_rises w (place_at m) m.ballot high;
+      accepted = accepted_rises;
+      rounds = λ p. omega arith;
     }
 
     abbrev record_now : Accepted
@@ -126,12 +134,13 @@ module _ (w : World) (es : List Event) (notes : List Stored) (i : Invariant w es
     -- what an acceptor accepts was put, in the ballot that it promises
     accepted_now : (q : Place) (x : Accepted) → accepted_of after_put q ≡ Some x → AcceptedFits after_put q x
     accepted_now q x h = elim (accepted_after q) [
-        inl p ↦ (let one : record_now ≡ x = some_is _ _ (sym p.1 ∙ h) in
+      | inl p ↦ (let one : record_now ≡ x = some_is _ _ (sym p.1 ∙ h) in
           subst (λ (z : Place). AcceptedFits after_put z x) (sym p.0) (subst (λ (y : Accepted). AcceptedFits after_put (place_at m) y) one fits_here))
       | inr p ↦ (let f : AcceptedFits w q x = i.accepted q x (sym p ∙ h) in record {
-          put = put_on w after_put put_grows q.shard q.epoch x.ballot x.config f.put;
-          promised = le_trans _ _ _ f.promised (put_grows.promises q);
-        }) ]
+        put = put_on w after_put put_grows q.shard q.epoch x.ballot x.config f.put;
+        promised = le_trans _ _ _ f.promised (put_grows.promises q);
+      })
+    ]
 
     pub put_turn : IsAcceptor w m.to → Turn w es notes e after_put (answer m Kept ∷ []) None
     put_turn within = record {

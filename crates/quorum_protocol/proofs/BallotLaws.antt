@@ -3,7 +3,7 @@ use Rattle.std.proofs.Common.{◌≡◌, refl, ℕ, ◌<◌, ◌≤◌, Bool, tr
 use Rattle.std.specs.Prelude.{nat_lt, nat_le}
 use Rattle.std.proofs.lemmas.Bool.Decides.{nat_tests}
 use Rattle.quorum_protocol.specs.declared.terms.Ballot.{Ballot}
-use Rattle.quorum_protocol.specs.Ballots.{ballot_le, no_ballot}
+use Rattle.quorum_protocol.specs.Ballots.{ballot_le}
 use Rattle.quorum_protocol.proofs.Tables.{ballot_is}
 
 -- the first is at most the second; below it
@@ -39,9 +39,6 @@ lt_le a b h = grind arith
 pub lt_not_le : (a b : Ballot) → Lt a b → Le b a → ⊥
 lt_not_le a b h k = grind arith
 
-pub none_below : (b : Ballot) → Le no_ballot b
-none_below b = grind arith
-
 -- at most, but not equal
 pub le_lt : (a b : Ballot) → Le a b → (a ≡ b → ⊥) → Lt a b
 le_lt a b (inl h) n = inl h
@@ -49,6 +46,7 @@ le_lt a b (inr h) n = go (less_or_same a.proposer b.proposer h.1)
   where
     less_or_same : (p q : ℕ) → p ≤ q → (p < q) ⊎ (p ≡ q)
     less_or_same p q k = grind arith
+
     go : (a.proposer < b.proposer) ⊎ (a.proposer ≡ b.proposer) → Lt a b
     go (inl k) = inr (h.0, k)
     go (inr k) = absurd (n (ballot_is a.round b.round a.proposer b.proposer h.0 k))
@@ -60,6 +58,7 @@ le_split a b (inr h) = go (less_or_same a.proposer b.proposer h.1)
   where
     less_or_same : (p q : ℕ) → p ≤ q → (p < q) ⊎ (p ≡ q)
     less_or_same p q k = grind arith
+
     go : (a.proposer < b.proposer) ⊎ (a.proposer ≡ b.proposer) → Lt a b ⊎ (a ≡ b)
     go (inl k) = inl (inr (h.0, k))
     go (inr k) = inr (ballot_is a.round b.round a.proposer b.proposer h.0 k)

@@ -44,8 +44,8 @@ module _ (w : World) (es : List Event) (notes : List Stored) (i : Invariant w es
   safe_of s e b c h =
       let f : PutFits w es h.sent c = put_fits h.sent c h.stands h.say_is in
       subst (λ (x : Ballot). Safe w s e x c) h.ballot_is
-        (subst (λ (x : ℕ). Safe w s x h.sent.ballot c) h.epoch_is
-          (subst (λ (x : ℕ). Safe w x h.sent.epoch h.sent.ballot c) h.shard_is f.safe))
+      (subst (λ (x : ℕ). Safe w s x h.sent.ballot c) h.epoch_is
+      (subst (λ (x : ℕ). Safe w x h.sent.epoch h.sent.ballot c) h.shard_is f.safe))
 
   -- one ballot puts one configuration
   pub one_of_a_ballot : (s e t f : ℕ) (a b : Ballot) (c d : Membership) → WasPut w s e a c → WasPut w t f b d → a ≡ b → d ≡ c
@@ -58,7 +58,7 @@ module _ (w : World) (es : List Event) (notes : List Stored) (i : Invariant w es
         let f : ToldFits w t.sent t.pair = told_fits t.sent t.pair t.stands t.say_is in
         let at : place_from k.sent ≡ place_from t.sent = place_is _ _ _ _ _ _ (k.from_is ∙ sym t.from_is) (k.shard_is ∙ sym t.shard_is) (k.epoch_is ∙ sym t.epoch_is) in
         let lower : Lt k.sent.ballot t.sent.ballot =
-          subst (λ (y : Ballot). Lt y t.sent.ballot) (sym k.ballot_is) (subst (λ (y : Ballot). Lt b y) (sym t.ballot_is) l) in
+        subst (λ (y : Ballot). Lt y t.sent.ballot) (sym k.ballot_is) (subst (λ (y : Ballot). Lt b y) (sym t.ballot_is) l) in
         let p : Covers t.pair k.sent.ballot = f.covers k.sent k.stands k.say_is at lower in
         let q : Covers x p.one.ballot = t.covered p.one p.is in
         record { one = q.one; is = q.is; above = le_trans b p.one.ballot q.one.ballot (subst (λ (y : Ballot). Le y p.one.ballot) k.ballot_is p.above) q.above }
@@ -70,30 +70,35 @@ module _ (w : World) (es : List Event) (notes : List Stored) (i : Invariant w es
       where
         safe : Safe w s e b' c'
         safe = safe_of s e b' c' h
+
         meet : Common safe.told ks
         meet = majorities_meet safe.told ks w.acceptors safe.heard.distinct keep.distinct
             (told_within s e b' safe.told safe.greatest safe.heard) (keepers_within s e b c ks keep) safe.many many
+
         greatest_is : Covers safe.greatest b → c' ≡ c
         greatest_is k =
             let put : WasPut w s e k.one.ballot k.one.config = safe.heard.put k.one k.is in
             safe.value k.one k.is ∙ elim (le_split b k.one.ballot k.above) [
-                inl higher ↦ between k.one.ballot k.one.config (safe.heard.below k.one k.is) higher put
-              | inr same ↦ one_of_a_ballot s e s e b k.one.ballot c k.one.config keep.put put same ]
+              | inl higher ↦ between k.one.ballot k.one.config (safe.heard.below k.one k.is) higher put
+              | inr same ↦ one_of_a_ballot s e s e b k.one.ballot c k.one.config keep.put put same
+            ]
 
     -- the ballots of one round, by their proposers
     in_round : (n : ℕ) → ((x : Ballot) (d : Membership) → x.round < n → Lt b x → WasPut w s e x d → d ≡ c)
         → (k : ℕ) (x : Ballot) (d : Membership) → x.round ≡ n → x.proposer < k → Lt b x → WasPut w s e x d → d ≡ c
     in_round n lower zero x d r p l h = absurd (omega arith)
     in_round n lower (suc k) x d r p l h = carried_once x d l h (λ y f m o q. elim m [
-        inl v ↦ lower y f (omega arith) o q
-      | inr v ↦ in_round n lower k y f (v.0 ∙ r) (omega arith) o q ])
+      | inl v ↦ lower y f (omega arith) o q
+      | inr v ↦ in_round n lower k y f (v.0 ∙ r) (omega arith) o q
+    ])
 
     -- the ballots below a round
     below_round : (n : ℕ) (x : Ballot) (d : Membership) → x.round < n → Lt b x → WasPut w s e x d → d ≡ c
     below_round zero x d r l h = absurd (omega arith)
     below_round (suc n) x d r l h = elim (less_or_same x.round n r) [
-        inl v ↦ below_round n x d v l h
-      | inr v ↦ in_round n (below_round n) (suc x.proposer) x d v (omega arith) l h ]
+      | inl v ↦ below_round n x d v l h
+      | inr v ↦ in_round n (below_round n) (suc x.proposer) x d v (omega arith) l h
+    ]
 
     pub carried : (x : Ballot) (d : Membership) → Lt b x → WasPut w s e x d → d ≡ c
     carried x d l h = below_round (suc x.round) x d (omega arith) l h
@@ -101,10 +106,12 @@ module _ (w : World) (es : List Event) (notes : List Stored) (i : Invariant w es
   -- two configurations of one shard and epoch that are chosen are equal
   pub chosen_agree : (x y : Membership) → Chosen w x → Chosen w y → x.shard ≡ y.shard → x.epoch ≡ y.epoch → x ≡ y
   chosen_agree x y h k s e = elim (lt_or_same h.ballot k.ballot) [
-      inl order ↦ elim order [
-          inl l ↦ sym (carried x.shard x.epoch h.ballot x h.keepers h.keep h.many k.ballot y l (moved y x k.ballot (sym s) (sym e) k.keep.put))
-        | inr l ↦ carried y.shard y.epoch k.ballot y k.keepers k.keep k.many h.ballot x l (moved x y h.ballot s e h.keep.put) ]
-    | inr same ↦ sym (one_of_a_ballot x.shard x.epoch y.shard y.epoch h.ballot k.ballot x y h.keep.put k.keep.put same) ]
+    | inl order ↦ elim order [
+      | inl l ↦ sym (carried x.shard x.epoch h.ballot x h.keepers h.keep h.many k.ballot y l (moved y x k.ballot (sym s) (sym e) k.keep.put))
+      | inr l ↦ carried y.shard y.epoch k.ballot y k.keepers k.keep k.many h.ballot x l (moved x y h.ballot s e h.keep.put)
+    ]
+    | inr same ↦ sym (one_of_a_ballot x.shard x.epoch y.shard y.epoch h.ballot k.ballot x y h.keep.put k.keep.put same)
+  ]
     where
       moved : (u v : Membership) (b : Ballot) → u.shard ≡ v.shard → u.epoch ≡ v.epoch → WasPut w u.shard u.epoch b u → WasPut w v.shard v.epoch b u
       moved u v b p q z = record { sent = z.sent; stands = z.stands; say_is = z.say_is; ballot_is = z.ballot_is; shard_is = z.shard_is ∙ p; epoch_is = z.epoch_is ∙ q }

@@ -50,18 +50,15 @@ ask_not_put d h = cc
 
 module _ (w : World) (es : List Event) (notes : List Stored) (i : Invariant w es notes) (round : ℕ) (config : Membership)
     (higher : round_of w config.by < round) (next : config.epoch ≡ known_of w (knows config.by config) + 1) where
-  abbrev a : Attempt
-  a = begun round config
-
-  abbrev e : Event
-  e = Cas round config
-
   abbrev after_cas : World
   after_cas = sending (with_attempt w config.by (begun round config)) (to_all w.acceptors (begun round config) Ask)
 
   cas_grows : Grows w after_cas
   cas_grows = record {
-    acceptors = refl; messages = λ m s. stands_front w.messages _ m s; promises = λ q. le_same (promise_of w q); accepted = λ q b h. h;
+    acceptors = refl;
+    messages = λ m s. stands_front w.messages _ m s;
+    promises = λ q. le_same (promise_of w q);
+    accepted = λ q b h. h;
     rounds = round_rises w config.by (begun round config) (omega (arith, higher));
   }
 
@@ -75,14 +72,16 @@ module _ (w : World) (es : List Event) (notes : List Stored) (i : Invariant w es
 
   attempts_after : (p : ℕ) (b : Attempt) → attempt_of after_cas p ≡ Some b → AttemptFits after_cas (es ++ Cas round config ∷ []) (notes ++ []) p b
   attempts_after p b h = elim (attempt_after w config.by (begun round config) p) [
-      inl n ↦ subst (λ (q : ℕ). AttemptFits after_cas (es ++ Cas round config ∷ []) (notes ++ []) q b) (sym n.0)
+    | inl n ↦ subst (λ (q : ℕ). AttemptFits after_cas (es ++ Cas round config ∷ []) (notes ++ []) q b) (sym n.0)
         (subst (λ (z : Attempt). AttemptFits after_cas (es ++ Cas round config ∷ []) (notes ++ []) config.by z) (some_is _ _ (sym n.1 ∙ h)) begun_fits)
-    | inr o ↦ attempt_lasts w es notes i (Cas round config) after_cas cas_grows [] p b (sym o ∙ h) ]
+    | inr o ↦ attempt_lasts w es notes i (Cas round config) after_cas cas_grows [] p b (sym o ∙ h)
+  ]
 
   asking_after : (p : ℕ) (b : Attempt) → attempt_of after_cas p ≡ Some b → is_asking b.stage ≡ true → (round_of w p < b.ballot.round) ⊎ AskedBefore w p b
   asking_after p b h k = elim (attempt_after w config.by (begun round config) p) [
-      inl n ↦ inl (subst (λ (z : Attempt). round_of w p < z.ballot.round) (some_is _ _ (sym n.1 ∙ h)) (subst (λ (q : ℕ). round_of w q < round) (sym n.0) higher))
-    | inr o ↦ inr (record { old = b; is = sym o ∙ h; ballot_is = refl; asks = k }) ]
+    | inl n ↦ inl (subst (λ (z : Attempt). round_of w p < z.ballot.round) (some_is _ _ (sym n.1 ∙ h)) (subst (λ (q : ℕ). round_of w q < round) (sym n.0) higher))
+    | inr o ↦ inr (record { old = b; is = sym o ∙ h; ballot_is = refl; asks = k })
+  ]
 
   ask_fits : (k : Message) → StandsIn k (to_all w.acceptors (begun round config) Ask) → MessageFits after_cas (es ++ Cas round config ∷ []) k k.say
   ask_fits k s =
@@ -117,30 +116,35 @@ module _ (w : World) (es : List Event) (notes : List Stored) (i : Invariant w es
 
   pub changed_grows : Grows w changed
   changed_grows = record {
-    acceptors = refl; messages = stay; promises = λ q. le_same (promise_of w q); accepted = λ q x h. h;
+    acceptors = refl;
+    messages = stay;
+    promises = λ q. le_same (promise_of w q);
+    accepted = λ q x h. h;
     rounds = round_rises w p (staged b c new) (let r : round_of w p ≡ b.round = ap round_in is in omega (arith, r));
   }
 
   pub asking_changed : (is_asking new ≡ true → is_asking old ≡ true) → (q : ℕ) (x : Attempt) → attempt_of changed q ≡ Some x → is_asking x.stage ≡ true → (round_of w q < x.ballot.round) ⊎ AskedBefore w q x
   asking_changed f q x h k = elim (attempt_after w p (staged b c new) q) [
-      inl n ↦ (let one : staged b c new ≡ x = some_is _ _ (sym n.1 ∙ h) in inr (record {
-        old = staged b c old;
-        is = subst (λ (z : ℕ). attempt_of w z ≡ Some (staged b c old)) (sym n.0) is;
-        ballot_is = ap (λ (z : Attempt). z.ballot) one;
-        asks = f (ap (λ (z : Attempt). is_asking z.stage) one ∙ k);
-      }))
-    | inr o ↦ inr (record { old = x; is = sym o ∙ h; ballot_is = refl; asks = k }) ]
+    | inl n ↦ (let one : staged b c new ≡ x = some_is _ _ (sym n.1 ∙ h) in inr (record {
+      old = staged b c old;
+      is = subst (λ (z : ℕ). attempt_of w z ≡ Some (staged b c old)) (sym n.0) is;
+      ballot_is = ap (λ (z : Attempt). z.ballot) one;
+      asks = f (ap (λ (z : Attempt). is_asking z.stage) one ∙ k);
+    }))
+    | inr o ↦ inr (record { old = x; is = sym o ∙ h; ballot_is = refl; asks = k })
+  ]
 
   pub old_fits : AttemptFits w es notes p (staged b c old)
   old_fits = i.attempts p (staged b c old) is
 
   pub attempts_changed : (more : List Stored) → StageFits changed (staged b c new) new → (q : ℕ) (x : Attempt) → attempt_of changed q ≡ Some x → AttemptFits changed (es ++ e ∷ []) (notes ++ more) q x
   attempts_changed more f q x h = elim (attempt_after w p (staged b c new) q) [
-      inl n ↦ subst (λ (z : ℕ). AttemptFits changed (es ++ e ∷ []) (notes ++ more) z x) (sym n.0)
+    | inl n ↦ subst (λ (z : ℕ). AttemptFits changed (es ++ e ∷ []) (notes ++ more) z x) (sym n.0)
         (subst (λ (z : Attempt). AttemptFits changed (es ++ e ∷ []) (notes ++ more) p z) (some_is _ _ (sym n.1 ∙ h)) (record {
           proposer_is = old_fits.proposer_is;
           proposed = proposed_on es (e ∷ []) c old_fits.proposed;
           climbed = λ g l k. note_on notes more p c.shard g (old_fits.climbed g l k);
           stage = f;
         }))
-    | inr o ↦ attempt_lasts w es notes i e changed changed_grows more q x (sym o ∙ h) ]
+    | inr o ↦ attempt_lasts w es notes i e changed changed_grows more q x (sym o ∙ h)
+  ]

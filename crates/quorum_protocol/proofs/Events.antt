@@ -71,8 +71,10 @@ module _ (w : World) (es : List Event) (notes : List Stored) (i : Invariant w es
       where
         put : WasPut w m.shard m.epoch m.ballot config
         put = record { sent = m; stands = s; say_is = say; ballot_is = refl; shard_is = refl; epoch_is = refl }
+
         f : PutFits w es m config
         f = fits (Put config) say
+
         go : (t : Bool) → ballot_le (promise_of w (place_at m)) m.ballot ≡ t → Turns w es notes e (if t then acts (with_accepted (with_promise w (place_at m) m.ballot) (place_at m) (record { ballot = m.ballot; config = config })) (answer m Kept ∷ []) else passes w (Stale (promise_of w (place_at m)).round))
         go true h = put_turn w es notes i e m (le_holds _ _ h) config put f.within
         go false h = idle e
@@ -84,9 +86,10 @@ module _ (w : World) (es : List Event) (notes : List Stored) (i : Invariant w es
       where
         majority : (of : OfAttempt m b c) (t : Bool) → is_majority w.acceptors (length (add_once told m.from)) ≡ t
             → Turns w es notes e (hears_told w m pair (staged b c (Asking told greatest))
-                (if t then Putting (value_of (hear told greatest m.from pair) c) [] else Asking (add_once told m.from) (hear told greatest m.from pair)))
+            (if t then Putting (value_of (hear told greatest m.from pair) c) [] else Asking (add_once told m.from) (hear told greatest m.from pair)))
         majority of true h = puts_turn w es notes i e m s pair say b c told greatest is of h
         majority of false h = asks_turn w es notes i e m s pair say b c told greatest is of
+
         go : (t : Bool) → (is_of (staged b c (Asking told greatest)) m && true) ≡ t
             → Turns w es notes e (if t then hears_told w m pair (staged b c (Asking told greatest)) (after_told w.acceptors c (Asking told greatest) m.from pair) else passes w (Held b.round))
         go true h = majority (of_attempt m b c (Asking told greatest) (left_of _ _ h)) _ refl
@@ -120,6 +123,7 @@ module _ (w : World) (es : List Event) (notes : List Stored) (i : Invariant w es
             → Turns w es notes e (hears_kept w m (staged b c (Putting value keepers)) (if t then Ended else Putting value (add_once keepers m.from)))
         majority of true h = ends_turn w es notes i e m s say b c value keepers is of h
         majority of false h = waits_turn w es notes i e m s say b c value keepers is of
+
         go : (t : Bool) → (is_of (staged b c (Putting value keepers)) m && true) ≡ t
             → Turns w es notes e (if t then hears_kept w m (staged b c (Putting value keepers)) (after_kept w.acceptors (Putting value keepers) m.from) else passes w (Held b.round))
         go true h = majority (of_attempt m b c (Putting value keepers) (left_of _ _ h)) _ refl
@@ -189,9 +193,9 @@ from_then_on : (es done : List Event) (w : World) (notes : List Stored) → Inva
 from_then_on [] done w notes i = rw (append-nil done, append-nil notes) i
 from_then_on (e ∷ es) done w notes i =
     let k = from_then_on es (done ++ e ∷ []) (step w e).after (notes ++ listed (step w e).stored)
-          (invariant_lasts w done notes e (step w e).after (step w e).sent (step w e).stored (step_turns w done notes i e) i) in
+    (invariant_lasts w done notes e (step w e).after (step w e).sent (step w e).stored (step_turns w done notes i e) i) in
     subst (λ (ds : List Event). Invariant (run_from (step w e).after es) ds (notes ++ notes_from w (e ∷ es))) (append_assoc done (e ∷ []) es)
-      (subst (λ (ns : List Stored). Invariant (run_from (step w e).after es) ((done ++ e ∷ []) ++ es) ns) (append_assoc notes (listed (step w e).stored) (notes_from (step w e).after es)) k)
+    (subst (λ (ns : List Stored). Invariant (run_from (step w e).after es) ((done ++ e ∷ []) ++ es) ns) (append_assoc notes (listed (step w e).stored) (notes_from (step w e).after es)) k)
 
 -- every run has it
 pub run_has : (n : ℕ) (es : List Event) → Invariant (run n es) es (history n es)

@@ -75,7 +75,14 @@ module _ (w : World) (s e : ℕ) (b : Ballot) (told : List ℕ) (greatest : Opti
     (put : (x : Accepted) → pair ≡ Some x → WasPut w s e x.ballot x.config) (below : (x : Accepted) → pair ≡ Some x → Lt x.ballot b) where
   wider : (a : ℕ) → HasTold w s e b greatest a → HasTold w s e b (greater greatest pair) a
   wider a t = record {
-    sent = t.sent; stands = t.stands; pair = t.pair; say_is = t.say_is; from_is = t.from_is; ballot_is = t.ballot_is; shard_is = t.shard_is; epoch_is = t.epoch_is;
+    sent = t.sent;
+    stands = t.stands;
+    pair = t.pair;
+    say_is = t.say_is;
+    from_is = t.from_is;
+    ballot_is = t.ballot_is;
+    shard_is = t.shard_is;
+    epoch_is = t.epoch_is;
     covered = λ x h. greater_left greatest pair x.ballot (t.covered x h);
   }
 
@@ -83,10 +90,12 @@ module _ (w : World) (s e : ℕ) (b : Ballot) (told : List ℕ) (greatest : Opti
   one_more n = record {
     distinct = distinct_push told from heard.distinct (stands_among told from n);
     each = λ a st. elim (stands_either told (from ∷ []) a st) [
-        inl o ↦ wider a (heard.each a o)
+      | inl o ↦ wider a (heard.each a o)
       | inr l ↦ elim l [
-          inl q ↦ subst (λ (z : ℕ). HasTold w s e b (greater greatest pair) z) (sym q) (here (greater greatest pair) (λ y h. greater_right greatest pair y h))
-        | inr z ↦ absurd z ] ];
+        | inl q ↦ subst (λ (z : ℕ). HasTold w s e b (greater greatest pair) z) (sym q) (here (greater greatest pair) (λ y h. greater_right greatest pair y h))
+        | inr z ↦ absurd z
+      ]
+    ];
     put = λ x h. elim (greater_is greatest pair x h) [ inl g ↦ heard.put x g | inr g ↦ put x g ];
     below = λ x h. elim (greater_is greatest pair x h) [ inl g ↦ heard.below x g | inr g ↦ below x g ];
   }
@@ -108,6 +117,7 @@ keeps_more w s e b c ks k from kept = go (is_among ks from) refl
       put = k.put;
       distinct = distinct_push ks from k.distinct (stands_among ks from h);
       each = λ a st. elim (stands_either ks (from ∷ []) a st) [
-          inl o ↦ k.each a o
-        | inr l ↦ elim l [ inl q ↦ subst (λ (z : ℕ). WasKept w s e b z) (sym q) kept | inr z ↦ absurd z ] ];
+        | inl o ↦ k.each a o
+        | inr l ↦ elim l [ inl q ↦ subst (λ (z : ℕ). WasKept w s e b z) (sym q) kept | inr z ↦ absurd z ]
+      ];
     }

@@ -31,8 +31,15 @@ module _ (w w' : World) (g : Grows w w') where
 
   pub told_on : (s e : ℕ) (b : Ballot) (x : Option Accepted) (a : ℕ) → HasTold w s e b x a → HasTold w' s e b x a
   told_on s e b x a h = record {
-    sent = h.sent; stands = g.messages h.sent h.stands; pair = h.pair; say_is = h.say_is; from_is = h.from_is; ballot_is = h.ballot_is;
-    shard_is = h.shard_is; epoch_is = h.epoch_is; covered = h.covered;
+    sent = h.sent;
+    stands = g.messages h.sent h.stands;
+    pair = h.pair;
+    say_is = h.say_is;
+    from_is = h.from_is;
+    ballot_is = h.ballot_is;
+    shard_is = h.shard_is;
+    epoch_is = h.epoch_is;
+    covered = h.covered;
   }
 
   pub heard_on : (s e : ℕ) (b : Ballot) (told : List ℕ) (x : Option Accepted) → Heard w s e b told x → Heard w' s e b told x
@@ -48,7 +55,11 @@ module _ (w w' : World) (g : Grows w w') where
 
   pub safe_on : (s e : ℕ) (b : Ballot) (c : Membership) → Safe w s e b c → Safe w' s e b c
   safe_on s e b c h = record {
-    told = h.told; greatest = h.greatest; heard = heard_on s e b h.told h.greatest h.heard; many = majority_on (length h.told) h.many; value = h.value;
+    told = h.told;
+    greatest = h.greatest;
+    heard = heard_on s e b h.told h.greatest h.heard;
+    many = majority_on (length h.told) h.many;
+    value = h.value;
   }
 
   pub keeps_on : (s e : ℕ) (b : Ballot) (c : Membership) (ks : List ℕ) → Keeps w s e b c ks → Keeps w' s e b c ks
@@ -56,7 +67,10 @@ module _ (w w' : World) (g : Grows w w') where
 
   pub chosen_on : (c : Membership) → Chosen w c → Chosen w' c
   chosen_on c h = record {
-    ballot = h.ballot; keepers = h.keepers; keep = keeps_on c.shard c.epoch h.ballot c h.keepers h.keep; many = majority_on (length h.keepers) h.many;
+    ballot = h.ballot;
+    keepers = h.keepers;
+    keep = keeps_on c.shard c.epoch h.ballot c h.keepers h.keep;
+    many = majority_on (length h.keepers) h.many;
   }
 
   pub acceptor_on : (a : ℕ) → IsAcceptor w a → IsAcceptor w' a

@@ -28,16 +28,18 @@ stands_nil xs x s = elim (stands_either xs [] x s) [ inl h ↦ h | inr h ↦ abs
 -- what an acceptor promised, after it promised this
 pub promise_after : (w : World) (at : Place) (b : Ballot) (q : Place) → ((q ≡ at) × (promise_of (with_promise w at b) q ≡ b)) ⊎ (promise_of (with_promise w at b) q ≡ promise_of w q)
 promise_after w at b q = elim (get_put same_place exact_place w.promises at b q) [
-    inl h ↦ inl (h.0, ap (λ (o : Option Ballot). or_else no_ballot o) h.1)
-  | inr h ↦ inr (ap (λ (o : Option Ballot). or_else no_ballot o) h) ]
+  | inl h ↦ inl (h.0, ap (λ (o : Option Ballot). or_else no_ballot o) h.1)
+  | inr h ↦ inr (ap (λ (o : Option Ballot). or_else no_ballot o) h)
+]
 
 pub promise_here : (w : World) (at : Place) (b : Ballot) → promise_of (with_promise w at b) at ≡ b
 promise_here w at b = ap (λ (o : Option Ballot). or_else no_ballot o) (get_put_here same_place w.promises at b (same_place_is at))
 
 pub promise_rises : (w : World) (at : Place) (b : Ballot) → Le (promise_of w at) b → (q : Place) → Le (promise_of w q) (promise_of (with_promise w at b) q)
 promise_rises w at b h q = elim (promise_after w at b q) [
-    inl p ↦ subst (λ (y : Ballot). Le (promise_of w q) y) (sym p.1) (subst (λ (z : Place). Le (promise_of w z) b) (sym p.0) h)
-  | inr p ↦ subst (λ (y : Ballot). Le (promise_of w q) y) (sym p) (le_same (promise_of w q)) ]
+  | inl p ↦ subst (λ (y : Ballot). Le (promise_of w q) y) (sym p.1) (subst (λ (z : Place). Le (promise_of w z) b) (sym p.0) h)
+  | inr p ↦ subst (λ (y : Ballot). Le (promise_of w q) y) (sym p) (le_same (promise_of w q))
+]
 
 -- a proposer's attempt, after this one took its place
 pub attempt_after : (w : World) (p : ℕ) (a : Attempt) (q : ℕ) → ((q ≡ p) × (attempt_of (with_attempt w p a) q ≡ Some a)) ⊎ (attempt_of (with_attempt w p a) q ≡ attempt_of w q)
@@ -45,8 +47,9 @@ attempt_after w p a q = get_put nat_eq exact_number w.attempts p a q
 
 pub round_rises : (w : World) (p : ℕ) (a : Attempt) → round_of w p ≤ a.ballot.round → (q : ℕ) → round_of w q ≤ round_of (with_attempt w p a) q
 round_rises w p a h q = elim (attempt_after w p a q) [
-    inl e ↦ (let r : round_of (with_attempt w p a) q ≡ a.ballot.round = ap round_in e.1 in let s : round_of w q ≡ round_of w p = ap (round_of w) e.0 in omega (arith, r, s, h))
-  | inr e ↦ (let r : round_of (with_attempt w p a) q ≡ round_of w q = ap round_in e in omega (arith, r)) ]
+  | inl e ↦ (let r : round_of (with_attempt w p a) q ≡ a.ballot.round = ap round_in e.1 in let s : round_of w q ≡ round_of w p = ap (round_of w) e.0 in omega (arith, r, s, h))
+  | inr e ↦ (let r : round_of (with_attempt w p a) q ≡ round_of w q = ap round_in e in omega (arith, r))
+]
 
 -- ---- what lasts
 
@@ -87,15 +90,15 @@ stop_grows w stopped =
 -- an event that does nothing, or stops an acceptor
 pub idle_turn : (w : World) (es : List Event) (notes : List Stored) (e : Event) (stopped : List ℕ) → Invariant w es notes → Turn w es notes e (stopping w stopped) [] None
 idle_turn w es notes e stopped i = record {
-    grows = stop_grows w stopped;
-    messages_are = sym (append-nil w.messages);
-    kept_above = λ k s h. absurd s;
-    asking = asking_lasts w (stopping w stopped) (λ p. refl);
-    put_now = λ k d s h. absurd s;
-    fresh = λ m s. absurd s;
-    accepted = accepted_lasts w es notes i e (stopping w stopped) (stop_grows w stopped) (λ q. refl);
-    attempts = attempts_last w es notes i e (stopping w stopped) (stop_grows w stopped) (λ p. refl);
-    chosen = chosen_lasts w es notes i e (stopping w stopped) (stop_grows w stopped);
-    known = known_lasts w es notes i e (stopping w stopped) (stop_grows w stopped) [];
-    note = no_note es notes;
-  }
+  grows = stop_grows w stopped;
+  messages_are = sym (append-nil w.messages);
+  kept_above = λ k s h. absurd s;
+  asking = asking_lasts w (stopping w stopped) (λ p. refl);
+  put_now = λ k d s h. absurd s;
+  fresh = λ m s. absurd s;
+  accepted = accepted_lasts w es notes i e (stopping w stopped) (stop_grows w stopped) (λ q. refl);
+  attempts = attempts_last w es notes i e (stopping w stopped) (stop_grows w stopped) (λ p. refl);
+  chosen = chosen_lasts w es notes i e (stopping w stopped) (stop_grows w stopped);
+  known = known_lasts w es notes i e (stopping w stopped) (stop_grows w stopped) [];
+  note = no_note es notes;
+}

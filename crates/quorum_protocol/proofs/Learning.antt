@@ -91,14 +91,16 @@ module _ (w : World) (es : List Event) (notes : List Stored) (i : Invariant w es
 
   known_now : (k : Knows) → Climbed (notes ++ learned ∷ []) k.proposer k.shard (known_of ends k + 1)
   known_now k = elim (get_put same_knows exact_knows w.known (knows m.to value) value.epoch k) [
-      inl n ↦ (λ f l h.
+    | inl n ↦ (λ f l h.
         let top : known_of ends k ≡ value.epoch = ap (λ (o : Option ℕ). or_else 1 o) n.1 in
         subst (λ (z : Knows). HasNote (notes ++ learned ∷ []) z.proposer z.shard f) (sym n.0) (elim (below_or_same f value.epoch (subst (λ (z : ℕ). f < z + 1) top h)) [
-            inl u ↦ note_on notes (learned ∷ []) m.to value.shard f (climbed f l u)
-          | inr q ↦ record { note = learned; stands = stands_back notes (learned ∷ []) learned (inl refl); proposer_is = refl; shard_is = refl; epoch_is = sym q } ]))
+          | inl u ↦ note_on notes (learned ∷ []) m.to value.shard f (climbed f l u)
+          | inr q ↦ record { note = learned; stands = stands_back notes (learned ∷ []) learned (inl refl); proposer_is = refl; shard_is = refl; epoch_is = sym q }
+        ]))
     | inr o ↦ (λ f l h.
         let same : known_of ends k ≡ known_of w k = ap (λ (x : Option ℕ). or_else 1 x) o in
-        known_lasts w es notes i e ends ends_grows (learned ∷ []) k f l (subst (λ (z : ℕ). f < z + 1) same h)) ]
+        known_lasts w es notes i e ends ends_grows (learned ∷ []) k f l (subst (λ (z : ℕ). f < z + 1) same h))
+  ]
 
   ended_never_asks : is_asking Ended ≡ true → is_asking (Putting value keepers) ≡ true
   ended_never_asks h = h
@@ -109,7 +111,8 @@ module _ (w : World) (es : List Event) (notes : List Stored) (i : Invariant w es
   module _ (many : is_majority w.acceptors (length (add_once keepers m.from)) ≡ true) where
     chosen_value : Chosen ends value
     chosen_value = record {
-      ballot = b; keepers = keepers';
+      ballot = b;
+      keepers = keepers';
       keep = keeps_on w ends ends_grows value.shard value.epoch b value keepers'
           (subst (λ (z : ℕ). Keeps w value.shard z b value keepers') (sym epoch_is) (subst (λ (z : ℕ). Keeps w z c.epoch b value keepers') (sym shard_is) keeps'));
       many = many;
@@ -117,8 +120,9 @@ module _ (w : World) (es : List Event) (notes : List Stored) (i : Invariant w es
 
     chosen_now : (n : Stored) → StandsIn n (notes ++ learned ∷ []) → Chosen ends n.config
     chosen_now n t = elim (stands_either notes (learned ∷ []) n t) [
-        inl o ↦ chosen_on w ends ends_grows n.config (i.chosen n o)
-      | inr l ↦ elim l [ inl q ↦ subst (λ (z : Stored). Chosen ends z.config) (sym q) chosen_value | inr z ↦ absurd z ] ]
+      | inl o ↦ chosen_on w ends ends_grows n.config (i.chosen n o)
+      | inr l ↦ elim l [ inl q ↦ subst (λ (z : Stored). Chosen ends z.config) (sym q) chosen_value | inr z ↦ absurd z ]
+    ]
 
     pub ends_turn : Turn w es notes e ends [] (Some learned)
     ends_turn = record {

@@ -3,8 +3,7 @@ use Rattle.std.proofs.Common.{◌≡◌, refl, ℕ, Bool, true, false, List, [],
 use Rattle.std.specs.Prelude.{if◌then◌else◌, nat_eq}
 use Rattle.std.proofs.lemmas.Bool.Decides.{nat_tests}
 use Rattle.quorum_protocol.specs.declared.terms.Place.{Place}
-use Rattle.quorum_protocol.specs.declared.terms.Knows.{Knows}
-use Rattle.quorum_protocol.specs.Ballots.{get, put, same_place, same_knows}
+use Rattle.quorum_protocol.specs.Ballots.{get, put, same_place}
 
 pub get_put_here : {K X : Type 0} (same : K → K → Bool) (es : List (K × X)) (k : K) (x : X) → same k k ≡ true → get same (put same es k x) k ≡ Some x
 get_put_here same [] k x h = rw h refl
@@ -19,6 +18,3 @@ same_number a = grind (arith, nat_tests)
 
 pub same_place_is : (a : Place) → same_place a a ≡ true
 same_place_is a = rw (same_number a.acceptor, same_number a.shard, same_number a.epoch) refl
-
-pub same_knows_is : (a : Knows) → same_knows a a ≡ true
-same_knows_is a = rw (same_number a.proposer, same_number a.shard) refl

@@ -25,7 +25,6 @@ use Rattle.quorum_protocol.proofs.Carried.{put_fits}
 use Rattle.quorum_protocol.proofs.Turns.{PutNow, Turn}
 use Rattle.quorum_protocol.proofs.Lasting.{accepted_lasts, chosen_lasts, known_lasts, no_note}
 use Rattle.quorum_protocol.proofs.Changing.{some_is, ToOne, to_one, says, staged, changed_grows, asking_changed, attempts_changed}
-
 use Rattle.quorum_protocol.proofs.Hearing.{OfAttempt, heard_more}
 
 -- a message to all acceptors is to each
@@ -88,7 +87,16 @@ module _ (w : World) (es : List Event) (notes : List Stored) (i : Invariant w es
   heard' : Heard w c.shard c.epoch b (add_once told m.from) (hear told greatest m.from pair)
   heard' = heard_more w c.shard c.epoch b told greatest own.stage m.from pair
       (λ x k. record {
-        sent = m; stands = s; pair = pair; say_is = say; from_is = refl; ballot_is = of.ballot_is; shard_is = of.shard_is; epoch_is = of.epoch_is; covered = k })
+        sent = m;
+        stands = s;
+        pair = pair;
+        say_is = say;
+        from_is = refl;
+        ballot_is = of.ballot_is;
+        shard_is = of.shard_is;
+        epoch_is = of.epoch_is;
+        covered = k;
+      })
       put_told below_told
 
   -- ---- it asks on
@@ -130,8 +138,10 @@ module _ (w : World) (es : List Event) (notes : List Stored) (i : Invariant w es
       (pf.shard_is ∙ p.shard_is, pf.epoch_is ∙ p.epoch_is, pf.proposed)
 
   abbrev puts_now : World
-  puts_now = record w { attempts = put nat_eq w.attempts m.to (staged b c (Putting (value_of (hear told greatest m.from pair) c) []));
-    messages = w.messages ++ to_all w.acceptors (staged b c (Asking told greatest)) (Put (value_of (hear told greatest m.from pair) c)) }
+  puts_now = record w {
+    attempts = put nat_eq w.attempts m.to (staged b c (Putting (value_of (hear told greatest m.from pair) c) []));
+    messages = w.messages ++ to_all w.acceptors (staged b c (Asking told greatest)) (Put (value_of (hear told greatest m.from pair) c));
+  }
 
   abbrev puts_sent : List Message
   puts_sent = to_all w.acceptors (staged b c (Asking told greatest)) (Put (value_of (hear told greatest m.from pair) c))
@@ -146,13 +156,17 @@ module _ (w : World) (es : List Event) (notes : List Stored) (i : Invariant w es
   -- all that is put in this ballot is this
   one_value : (k : Message) (d : Membership) → StandsIn k puts_now.messages → k.say ≡ Put d → k.ballot ≡ b → d ≡ value
   one_value k d t h j = elim (stands_either w.messages puts_sent k t) [
-      inl o ↦ absurd (not_put d k.shard k.epoch (record { sent = k; stands = o; say_is = h; ballot_is = j; shard_is = refl; epoch_is = refl }))
-    | inr n ↦ sym (put_is value d (says w.acceptors (staged b c (Asking told greatest)) (Put value) (Put d) k n h)) ]
+    | inl o ↦ absurd (not_put d k.shard k.epoch (record { sent = k; stands = o; say_is = h; ballot_is = j; shard_is = refl; epoch_is = refl }))
+    | inr n ↦ sym (put_is value d (says w.acceptors (staged b c (Asking told greatest)) (Put value) (Put d) k n h))
+  ]
 
   module _ (many : is_majority w.acceptors (length (add_once told m.from)) ≡ true) where
     safe_now : Safe puts_now c.shard c.epoch b value
     safe_now = record {
-      told = told'; greatest = greatest'; heard = heard_on w puts_now puts_grows c.shard c.epoch b told' greatest' heard'; many = many;
+      told = told';
+      greatest = greatest';
+      heard = heard_on w puts_now puts_grows c.shard c.epoch b told' greatest' heard';
+      many = many;
       value = λ x h. ap (λ (g : Option Accepted). value_of g c) h;
     }
 
@@ -188,7 +202,10 @@ module _ (w : World) (es : List Event) (notes : List Stored) (i : Invariant w es
       put = record {
         sent = message b.proposer m.from b c.shard c.epoch (Put value);
         stands = stands_back w.messages puts_sent _ (stands_all w.acceptors (staged b c (Asking told greatest)) (Put value) m.from fits.within.0 fits.within.1);
-        say_is = refl; ballot_is = refl; shard_is = refl; epoch_is = refl;
+        say_is = refl;
+        ballot_is = refl;
+        shard_is = refl;
+        epoch_is = refl;
       };
       distinct = tt;
       each = λ a t. absurd t;

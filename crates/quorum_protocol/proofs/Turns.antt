@@ -63,8 +63,9 @@ module _ (w : World) (es : List Event) (notes : List Stored) (e : Event) (w' : W
     put = λ x i. put_on w w' t.grows m.shard m.epoch x.ballot x.config (f.put x i);
     below = f.below;
     covers = λ k s i j l. elim (which k s) [
-        inl o ↦ f.covers k o i j l
-      | inr n ↦ absurd (lt_not_le k.ballot m.ballot l (le_trans _ _ _ f.promised (subst (λ q. Le (promise_of w q) k.ballot) j (t.kept_above k n i)))) ];
+      | inl o ↦ f.covers k o i j l
+      | inr n ↦ absurd (lt_not_le k.ballot m.ballot l (le_trans _ _ _ f.promised (subst (λ q. Le (promise_of w q) k.ballot) j (t.kept_above k n i))))
+    ];
   }
 
   asked_lasts : (m : Message) (config : Membership) → PutFits w es m config → (a : Attempt) → attempt_of w' m.ballot.proposer ≡ Some a → a.ballot ≡ m.ballot → is_asking a.stage ≡ true → ⊥
@@ -76,9 +77,10 @@ module _ (w : World) (es : List Event) (notes : List Stored) (e : Event) (w' : W
 
   one_lasts : (m : Message) (config : Membership) → PutFits w es m config → (k : Message) (d : Membership) → StandsIn k w'.messages → k.say ≡ Put d → k.ballot ≡ m.ballot → d ≡ config
   one_lasts m config f k d s i j = elim (which k s) [
-      inl o ↦ f.one k d o i j
+    | inl o ↦ f.one k d o i j
     | inr n ↦ (let p : PutNow w k = t.put_now k d n i in
-        absurd (f.asked p.attempt (subst (λ (b : Ballot). attempt_of w b.proposer ≡ Some p.attempt) j p.is) (p.ballot_is ∙ j) p.asks)) ]
+        absurd (f.asked p.attempt (subst (λ (b : Ballot). attempt_of w b.proposer ≡ Some p.attempt) j p.is) (p.ballot_is ∙ j) p.asks))
+  ]
 
   put_lasts : (m : Message) (config : Membership) → PutFits w es m config → PutFits w' (es ++ e ∷ []) m config
   put_lasts m config f = record {
