@@ -9,8 +9,6 @@ mod happenings;
 mod orders;
 mod peers;
 mod stopped;
-#[cfg(test)]
-mod tests;
 mod turns;
 mod worlds;
 
