@@ -2,7 +2,7 @@ use Rattle.std.proofs.Common.{ap, ◌∙◌}
 use Rattle.std.proofs.lemmas.Result.{err_from_is_err_and}
 use Rattle.replay_core.proofs.Going.{sink_stops}
 use Rattle.replay_core.proofs.Heading.{begun_run, begun_at, ends_begun, ends_head}
-use Rattle.replay_core.proofs.replay.replay_run.Goals as goal
+use Rattle.replay_core.proofs.by_rule.replay_run.Goals as goal
 
 pub replay_events-requires-clause-begun : goal.replay_events-requires-clause-begun
 replay_events-requires-clause-begun g c =

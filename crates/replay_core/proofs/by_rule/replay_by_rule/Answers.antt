@@ -2,7 +2,7 @@ use Rattle.std.proofs.Common.{ap, sym, ◌∙◌}
 use Rattle.std.proofs.lemmas.Result.{err_from_is_err_and}
 use Rattle.replay_core.specs.Trace.{tests_of}
 use Rattle.replay_core.proofs.Heading.{ends_unbegun, ends_header}
-use Rattle.replay_core.proofs.replay.replay_by_rule.Goals as goal
+use Rattle.replay_core.proofs.by_rule.replay_by_rule.Goals as goal
 
 pub returns-in_err-reading-clause-stopped : goal.returns-in_err-reading-clause-stopped
 returns-in_err-reading-clause-stopped g c = λ bytes before told holds.

@@ -1,13 +1,10 @@
-//! `replay`: a schedule in, the trace of its run out.
-ghost use Rattle.std.specs.Prelude.{◌≡◌, ◌⊎◌, ◌≤◌, ℕ, List, [], Option, Some, Ok, Err, OnOk, IfErr, IsErrOf, IsTrue};
+//! Which run a schedule is replayed by: that of the rule which its header names.
+ghost use Rattle.std.specs.Prelude.{◌≡◌, ◌≤◌, ℕ, List, Option, Some, OnOk, IfErr, IsErrOf};
 ghost use Rattle.tcs_io.specs.Faults.{Rose};
-ghost use Rattle.tcs_terms.specs.declared.inputs.Event.{Event};
 ghost use Rattle.tcs_terms.specs.declared.setups.Rule.TheVariants as rules;
-ghost use Rattle.tcs_terms.specs.Setups.{Deployment};
-ghost use Rattle.schedule_text.specs.Bytes.{IsText};
-ghost use Rattle.replay_core.specs.Trace.{tests_of, run_of, is_live};
-ghost use Rattle.replay_core.specs.Standing.{Begun};
+ghost use Rattle.replay_core.specs.Trace.{tests_of};
 ghost use Rattle.replay_core.specs.Replays.{Ends, Finishes};
+ghost use Rattle.replay_core.specs.Standing.{Begun};
 
 use crate::events::replay_events;
 use crate::header::header;
@@ -20,10 +17,7 @@ use tcs_terms::{Rule, Setup};
 use trace_text::print_head;
 
 /// Reads a schedule, and writes the trace of its run, which is kept by a run of the rule that the schedule names.
-///
-/// Line by line: what belongs to a line is written before the next line is read. `ReadFault` and `WriteFault` come only
-/// where the source or the sink counted a fault, and at each stop what was written is a front of the trace.
-pub fn replay_by_rule<Serial: Run, Snapshot: Run, Commute: Run, S: Source, K: Sink>(
+pub(crate) fn replay_by_rule<Serial: Run, Snapshot: Run, Commute: Run, S: Source, K: Sink>(
     alloc: Global,
     input: &mut S,
     output: &mut K,
@@ -31,14 +25,10 @@ pub fn replay_by_rule<Serial: Run, Snapshot: Run, Commute: Run, S: Source, K: Si
     requires serial { Serial.tests ≡ tests_of rules.Serial }
     requires snapshot { Snapshot.tests ≡ tests_of rules.Snapshot }
     requires commute { Commute.tests ≡ tests_of rules.Commute }
-
-    // What was read and written by then.
     ensures whole { (bytes before : List ℕ) → S.left input.old ≡ Some bytes → K.held output.old ≡ Some before
         → OnOk result (Finishes bytes before (S.left input.new) (K.held output.new)) }
     ensures stopped { (bytes before : List ℕ) → S.left input.old ≡ Some bytes → K.held output.old ≡ Some before
         → IfErr result (Ends bytes before (S.left input.new) (K.held output.new)) }
-
-    // A fault is told only where it was counted.
     ensures read { S.faults input.old ≤ S.faults input.new }
     ensures wrote { K.faults output.old ≤ K.faults output.new }
     ensures read_fault { IsErrOf result ReplayStop.ReadFault → Rose (S.faults input.old) (S.faults input.new) }
