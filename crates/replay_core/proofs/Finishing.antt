@@ -25,7 +25,7 @@ use Rattle.protocol.specs.History.{order_of}
 use Rattle.replay_core.specs.declared.reading.Reading.{Reading}
 use Rattle.replay_core.specs.declared.stops.ReplayStop.{ReplayStop}
 use Rattle.protocol_laws.specs.Promises.{world_of}
-use Rattle.replay_core.specs.Steps.{events_in}
+use Rattle.world.specs.WorldState.{events_of}
 use Rattle.replay_core.specs.Trace.{run_of, is_live, run_trace, trace, trace_front}
 use Rattle.replay_core.specs.Replays.{Kept, KeptOn, Replays, Stopped, StopsWithin, OfTail, Worked, shown, Ends, Finishes}
 use Rattle.replay_core.specs.Standing.{Takes, Standing, HasRead, RunsAt, StandsBegun, IsAt}
@@ -97,7 +97,7 @@ at_end bytes old new left left' is item at r t =
 -- ---- the last two lines
 
 abbrev pub tail_of : Run → List ℕ
-tail_of p = printed (OrderLine (order_of (world_of p).history)) ++ printed (EndLine (events_in p) (length (world_of p).messages))
+tail_of p = printed (OrderLine (order_of (world_of p).history)) ++ printed (EndLine (events_of p) (length (world_of p).messages))
 
 trace_by : (d : Deployment) (es : List Event) (p : Run) → run_of d es ≡ p → CountedIn d es p → is_live p ≡ true → trace d es ≡ trace_front d es ++ tail_of p
 trace_by d es (Live w count bytes) is c live =

@@ -20,7 +20,8 @@ use Rattle.protocol.specs.Limit.{Progress as Run}
 use Rattle.protocol.specs.Limit.Progress.{Live, Ended}
 use Rattle.replay_core.specs.declared.reading.Reading.{Reading}
 use Rattle.replay_core.specs.declared.stops.ReplayStop.{ReplayStop}
-use Rattle.replay_core.specs.Steps.{events_in, stop_of_sink}
+use Rattle.world.specs.WorldState.{events_of}
+use Rattle.replay_core.specs.Steps.{stop_of_sink}
 use Rattle.replay_core.specs.Trace.{run_of, is_live}
 use Rattle.replay_core.specs.Replays.{Stopped, StopsWithin, Ends}
 use Rattle.replay_core.specs.Standing.{Takes, Refuses, Standing, RunsAt, Stepped, StopsStepping, StandsBegun, IsAt, GoesOn}
@@ -83,18 +84,18 @@ few_by places.Parts d count es h = omega (arith, ap length h.0)
 few_by places.Events d count es h = h.2
 few_by places.Ended d count es h = h.2
 
-counted_by : (d : Deployment) (es : List Event) (p : Run) → CountedIn d es p → is_live p ≡ true → events_in p ≡ length es
+counted_by : (d : Deployment) (es : List Event) (p : Run) → CountedIn d es p → is_live p ≡ true → events_of p ≡ length es
 counted_by d es (Live w count bytes) c live = c.events
 counted_by d es (Ended w count bytes) c live = absurd cc
 
 pub few : (tests : Tests) (old new : Reading) (setup : Deployment) (p : Run) (is : List LineItem) (e : Event) (left left' : Option (List ℕ)) → StandsBegun tests places.Events old setup p is
-    → Takes old new (items.Event e) left left' → events_in p < EVENT_LIMIT
+    → Takes old new (items.Event e) left left' → events_of p < EVENT_LIMIT
 few tests old new setup p is e left left' s t =
     let n = new_standing tests old new setup p is (items.Event e) left left' s t in
     let k = known n.lines (is ++ items.Event e ∷ []) new.reader n.read in
     let most = few_by new.reader.head.place new.reader.head.setup new.reader.count (events_on (is ++ items.Event e ∷ [])) k.stands.events in
     let d = old.reader.head.setup in
-    let now : events_in p ≡ length (events_on is) = ap events_in s.runs.so_far ∙ counted_by d (events_on is) (run_of d (events_on is)) (counted d (events_on is)) s.runs.within in
+    let now : events_of p ≡ length (events_on is) = ap events_of s.runs.so_far ∙ counted_by d (events_on is) (run_of d (events_on is)) (counted d (events_on is)) s.runs.within in
     omega (arith, now, most, ap length (events_append is (items.Event e ∷ [])), length-append (events_on is) (e ∷ []))
 
 -- ---- turns

@@ -16,7 +16,8 @@ use Rattle.protocol.specs.World.{World, Sent, Happening as Came, world_step}
 use Rattle.replay_core.specs.declared.runs.RunStop.{RunStop}
 use Rattle.replay_core.specs.declared.runs.RunStop.TheVariants as runs
 use Rattle.protocol_laws.specs.Promises.{world_of}
-use Rattle.replay_core.specs.Steps.{events_in, Tells, stop_of_run}
+use Rattle.world.specs.WorldState.{events_of}
+use Rattle.replay_core.specs.Steps.{Tells, stop_of_run}
 use Rattle.replay_core.specs.Trace.{tests_of, run_of, answer_to, is_live, sending, trace_front}
 use Rattle.replay_core.specs.Standing.{RunsAt, Stepped, StopsStepping}
 use Rattle.protocol_laws.proofs.RunsOn.{event-adds}
@@ -85,7 +86,7 @@ taken d es e result (Ended w count bytes) is live tells = absurd cc
 -- the run stands behind the event, and what was written is what belongs to it
 pub stepped : (tests : Tests) (setup setup' : Deployment) (p p' : Run) (d : Deployment) (es : List Event) (e : Event) (result : Result1) (k noted sent : ℕ) (text : List ℕ) → RunsAt tests setup p d es
     → Tells (Ok result) (limited_step tests setup.version p e).answer → p' ≡ (limited_step tests setup.version p e).after → setup' ≡ setup
-    → k ≡ events_in p' → noted ≡ length (world_of p).history → sent ≡ length (world_of p).messages → text ≡ written k noted sent result (world_of p')
+    → k ≡ events_of p' → noted ≡ length (world_of p).history → sent ≡ length (world_of p).messages → text ≡ written k noted sent result (world_of p')
     → Stepped d es e text × RunsAt tests setup' p' d (es ++ e ∷ [])
 stepped tests setup setup' p p' d es e result k noted sent text r tells after same is_k is_noted is_sent is =
     let step = limited_step (tests_of d.rule) d.version (run_of d es) e in
@@ -93,7 +94,7 @@ stepped tests setup setup' p p' d es e result k noted sent text r tells after sa
     let t = taken d es e result (run_of d es) refl r.within (subst (λ (s : Step). Tells (Ok result) s.answer) one tells) in
     let p_is : p ≡ Live t.world t.count t.bytes = r.so_far ∙ t.before in
     let p'_is : p' ≡ Live t.came.after (t.count + 1) t.sum = after ∙ ap (λ (s : Step). s.after) one ∙ t.after in
-    let k_is : k ≡ t.count + 1 = is_k ∙ ap events_in p'_is in
+    let k_is : k ≡ t.count + 1 = is_k ∙ ap events_of p'_is in
     let noted_is : noted ≡ length t.world.history = is_noted ∙ ap (λ (q : Run). length (world_of q).history) p_is in
     let sent_is : sent ≡ length t.world.messages = is_sent ∙ ap (λ (q : Run). length (world_of q).messages) p_is in
     let back : sent + 1 - 1 ≡ length t.world.messages = omega (arith, sent_is) in

@@ -29,7 +29,7 @@ use Rattle.replay_core.specs.declared.reading.Reading.{Reading}
 use Rattle.replay_core.specs.declared.stops.ReplayStop.{ReplayStop}
 use Rattle.replay_core.specs.declared.stops.ReplayStop.TheVariants as stops
 use Rattle.protocol_laws.specs.Promises.{world_of}
-use Rattle.replay_core.specs.Steps.{events_in}
+use Rattle.world.specs.WorldState.{events_of}
 use Rattle.replay_core.specs.Trace.{tests_of, run_of, answer_to, is_live, run_trace, trace, trace_front}
 use Rattle.replay_core.specs.Replays.{Kept, KeptBy, KeptOn, Replays, Stopped, StopsWithin, OfLine, OfTail, Worked, InWork, front_of, shown, Ends, Finishes}
 use Rattle.replay_core.specs.Standing.{Standing, HasRead, InHand, RunsAt, Stepped, StopsStepping, StandsBegun, IsAt}

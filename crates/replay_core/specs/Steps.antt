@@ -7,8 +7,7 @@ use Rattle.schedule_text.specs.declared.lines.LinesStop.{LinesStop}
 use Rattle.schedule_text.specs.declared.lines.LinesStop.TheVariants as lines
 use Rattle.wire_frame.specs.Spelling.{spell}
 use Rattle.protocol.specs.World.{Sent}
-use Rattle.protocol.specs.Limit.{Progress, Answer}
-use Rattle.protocol.specs.Limit.Progress.{Live, Ended}
+use Rattle.protocol.specs.Limit.{Answer}
 use Rattle.protocol.specs.Limit.Answer.{Happens, SoupFull}
 use Rattle.replay_core.specs.declared.runs.RunStop.{RunStop}
 use Rattle.replay_core.specs.declared.runs.RunStop.TheVariants as runs
@@ -30,11 +29,6 @@ stop_of_run (runs.Full sum) = stops.Full sum
 stop_of_run runs.OutOfMemory = stops.OutOfMemory
 
 -- ---- what a run answers
-
--- how many events it took
-abbrev pub events_in : Progress → ℕ
-events_in (Live w events bytes) = events
-events_in (Ended w events bytes) = events
 
 -- the answer is the definition's, unless memory ran out
 abbrev pub Tells : Result Result1 RunStop → Answer → Type 0

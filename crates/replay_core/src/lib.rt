@@ -9,7 +9,7 @@ mod replaying;
 mod runs;
 mod stepping;
 mod stops;
+mod worlds;
 
 pub use replaying::replay;
-pub use runs::{Posted, Run, RunStop};
 pub use stops::ReplayStop;

@@ -2,19 +2,19 @@
 ghost use Rattle.std.specs.Prelude.{◌≡◌, ◌≤◌, ℕ, List, Some, OnOk, IfErr, IsErrOf, IsTrue};
 ghost use Rattle.tcs_io.specs.Faults.{Rose};
 ghost use Rattle.tcs_terms.specs.declared.inputs.Event.{Event};
-ghost use Rattle.tcs_terms.specs.declared.setups.Rule.TheVariants as rules;
 ghost use Rattle.tcs_terms.specs.declared.words.Reason.{Reason};
 ghost use Rattle.tcs_terms.specs.Setups.{Deployment};
 ghost use Rattle.schedule_text.specs.declared.reader.LineItem.{LineItem as Item};
 ghost use Rattle.schedule_text.specs.Bytes.{IsText, FirstBad};
-ghost use Rattle.replay_core.specs.Trace.{run_of, is_live, tests_of};
+ghost use Rattle.replay_core.specs.Trace.{run_of, is_live};
 ghost use Rattle.replay_core.specs.Replays.{Finishes, Ends, FirstFull, WithinOn, Stayed, ReplaysFully, StopsBy};
 
 use crate::by_rule::replay_by_rule;
-use crate::runs::Run;
 use crate::stops::ReplayStop;
+use conflict_index::{CommuteIndex, SerialIndex, SnapshotIndex};
 use std::alloc::Global;
 use tcs_io::{Sink, Source};
+use world::World;
 
 /// Reads a schedule from `input`, and writes the trace of its run to `output`.
 ///
@@ -26,15 +26,11 @@ use tcs_io::{Sink, Source};
 /// the frames of the run would have with the next event, where that is above the limit. `ReadFault` and `WriteFault`
 /// come only where the source or the sink counted a fault. Each stop tells what was read and written by then, and the
 /// run up to it keeps its promises.
-pub fn replay<Serial: Run, Snapshot: Run, Commute: Run, S: Source, K: Sink>(
+pub fn replay<S: Source, K: Sink>(
     alloc: Global,
     input: &mut S,
     output: &mut K,
 ) -> Result<(), ReplayStop>
-    requires serial { Serial.tests ≡ tests_of rules.Serial }
-    requires snapshot { Snapshot.tests ≡ tests_of rules.Snapshot }
-    requires commute { Commute.tests ≡ tests_of rules.Commute }
-
     // What was read and written by then.
     ensures whole { (bytes before : List ℕ) → S.left input.old ≡ Some bytes → K.held output.old ≡ Some before
         → OnOk result (Finishes bytes before (S.left input.new) (K.held output.new)) }
@@ -59,5 +55,7 @@ pub fn replay<Serial: Run, Snapshot: Run, Commute: Run, S: Source, K: Sink>(
     ensures read_fault { IsErrOf result ReplayStop.ReadFault → Rose (S.faults input.old) (S.faults input.new) }
     ensures write_fault { IsErrOf result ReplayStop.WriteFault → Rose (K.faults output.old) (K.faults output.new) }
 {
-    replay_by_rule::<Serial, Snapshot, Commute, S, K>(alloc, input, output)
+    replay_by_rule::<World<SerialIndex>, World<SnapshotIndex>, World<CommuteIndex>, S, K>(
+        alloc, input, output,
+    )
 }

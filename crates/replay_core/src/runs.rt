@@ -9,14 +9,15 @@ ghost use Rattle.protocol.specs.Limit.{Progress, limited_step};
 ghost use Rattle.protocol.specs.Limit.Progress.{Live};
 ghost use Rattle.protocol.specs.World.{first_world, message_of};
 ghost use Rattle.protocol_laws.specs.Promises.{world_of};
-ghost use Rattle.replay_core.specs.Steps.{events_in, Tells, IsPosted};
+ghost use Rattle.world.specs.WorldState.{events_of};
+ghost use Rattle.replay_core.specs.Steps.{Tells, IsPosted};
 
 use std::alloc::Global;
 use tcs_terms::{Event, NodeId, Note, OutOfMemory, Result1, Setup, TxId};
 
 /// Why an event was not taken.
 #[derive(Clone, Copy, Debug, PartialEq, Eq)]
-pub enum RunStop {
+pub(crate) enum RunStop {
     /// With it the frames of the run would have this many bytes, which is above the limit.
     Full(u64),
     OutOfMemory,
@@ -24,14 +25,14 @@ pub enum RunStop {
 
 /// A message that was sent, by its frame.
 #[derive(Clone, Copy, Debug)]
-pub struct Posted<'a> {
-    pub from: NodeId,
-    pub to: NodeId,
-    pub frame: &'a [u8],
+pub(crate) struct Posted<'a> {
+    pub(crate) from: NodeId,
+    pub(crate) to: NodeId,
+    pub(crate) frame: &'a [u8],
 }
 
 /// One run of a setup by one certifier, under the limit on frame bytes, kept event by event.
-pub trait Run: Drop {
+pub(crate) trait Run: Drop {
     /// The tests of its certifier.
     ghost tests: { Tests };
 
@@ -52,7 +53,7 @@ pub trait Run: Drop {
     /// Takes an event of the setup. After an `Err` the run is not asked again.
     fn step(&mut self, event: Event) -> Result<Result1, RunStop>
         requires may { MayStand (setup self.old) event }
-        requires few { events_in (progress self.old) < EVENT_LIMIT }
+        requires few { events_of (progress self.old) < EVENT_LIMIT }
         ensures answer { Tells result (limited_step tests (setup self.old).version (progress self.old) event).answer }
         ensures record { OnOk result (progress self.new ≡ (limited_step tests (setup self.old).version (progress self.old) event).after) }
         ensures setup { OnOk result (setup self.new ≡ setup self.old) }
@@ -60,7 +61,7 @@ pub trait Run: Drop {
 
     /// How many events were taken.
     fn events(&self) -> u32
-        ensures { result ≡ events_in (progress self.now) };
+        ensures { result ≡ events_of (progress self.now) };
 
     /// How many messages were sent.
     fn messages(&self) -> u32

@@ -9,7 +9,7 @@ ghost use Rattle.trace_text.specs.Traces.{message_lines};
 ghost use Rattle.schedule_text.specs.declared.limits.TheConstants.{EVENT_LIMIT};
 ghost use Rattle.protocol.specs.History.{order_of};
 ghost use Rattle.protocol_laws.specs.Promises.{world_of};
-ghost use Rattle.replay_core.specs.Steps.{events_in};
+ghost use Rattle.world.specs.WorldState.{events_of};
 ghost use Rattle.replay_core.specs.Trace.{sending};
 ghost use Rattle.replay_core.specs.Standing.{RunsAt, Stepped, StopsStepping};
 
@@ -45,7 +45,7 @@ fn notes_from(history: &[Note], noted: usize) -> &[Note]
 /// Steps an event, and puts its line, its notes and its messages in place of the text.
 pub(crate) fn step<R: Run>(run: &mut R, event: Event, text: &mut Vec<u8>) -> Result<(), ReplayStop>
     requires may { MayStand (R.setup run.old) event }
-    requires few { events_in (R.progress run.old) < EVENT_LIMIT }
+    requires few { events_of (R.progress run.old) < EVENT_LIMIT }
     ensures stepped { (d : Deployment) (es : List Event) → RunsAt R.tests (R.setup run.old) (R.progress run.old) d es
         → OnOk result (Stepped d es event text.new.items × RunsAt R.tests (R.setup run.new) (R.progress run.new) d (es ++ event ∷ [])) }
     ensures lives { OnOk result (R.spent run.new ≡ false) }
@@ -70,7 +70,7 @@ pub(crate) fn step<R: Run>(run: &mut R, event: Event, text: &mut Vec<u8>) -> Res
 pub(crate) fn put_tail<R: Run>(run: &R, text: &mut Vec<u8>) -> Result<(), OutOfMemory>
     requires { R.spent run.now ≡ false }
     ensures { OnOk result (text.new.items ≡ printed (OrderLine (order_of (world_of (R.progress run.now)).history))
-        ++ printed (EndLine (events_in (R.progress run.now)) (length (world_of (R.progress run.now)).messages))) }
+        ++ printed (EndLine (events_of (R.progress run.now)) (length (world_of (R.progress run.now)).messages))) }
 {
     text.clear();
     print_tail(run.order(), run.events(), run.messages(), text)
