@@ -1,4 +1,4 @@
-//! Replays a schedule: reads it line by line, and writes the trace of its run.
+//! Replays a schedule: reads it line by line, and writes the trace of its run, which is proved to keep its promises.
 #![tactic(auto)]
 
 mod by_rule;
@@ -9,6 +9,8 @@ mod replaying;
 mod runs;
 mod stepping;
 mod stops;
+#[cfg(test)]
+mod tests;
 mod worlds;
 
 pub use replaying::replay;
