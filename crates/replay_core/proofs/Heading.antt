@@ -1,5 +1,5 @@
 -- The header of a schedule: where a replay stands in it, and behind its line `events`.
-use Rattle.std.proofs.Common.{◌≡◌, inl, ℕ, ◌+◌, ◌<◌, ◌≤◌, List, [], ◌∷◌, ◌++◌, length, Option, Some, Ok, refl, sym, ◌∙◌, ap, subst, arith}
+use Rattle.std.proofs.Common.{◌≡◌, inl, ℕ, ◌+◌, ◌<◌, ◌≤◌, List, [], ◌∷◌, ◌++◌, length, Option, Some, Result, Ok, Err, refl, sym, ◌∙◌, ap, subst, arith}
 use Rattle.std.proofs.lemmas.List.{append-nil}
 use Rattle.tcs_io.specs.Bytes.{HoldsFront}
 use Rattle.tcs_terms.specs.declared.inputs.Event.{Event}
@@ -116,6 +116,14 @@ pub header_stops : (old : Reading) (first left left' : Option (List ℕ)) (stop 
 header_stops old first left left' stop h x = λ bytes told.
     let at = stops_at bytes old left left' h.items stop (h.read bytes told) (kept_none h.items h.none) x in
     (at.rest, at.told, subst (λ (t : List ℕ). Stopped bytes at.rest t stop) (shows_none h.items h.none) at.stopped)
+
+-- nothing was to be written
+pub header_unwritten : {X : Type 0} (old : Reading) (left left' : Option (List ℕ)) (stop : ReplayStop) → Refuses old left left' stop → ◌≡◌ {A = Result X ReplayStop} (Err stop) (Err stops.WriteFault) → ⊥
+header_unwritten old left left' (stops.Bad number reason) x told = absurd cc
+header_unwritten old left left' stops.ReadFault x told = absurd cc
+header_unwritten old left left' stops.WriteFault x told = x
+header_unwritten old left left' (stops.Full sum) x told = absurd cc
+header_unwritten old left left' stops.OutOfMemory x told = absurd cc
 
 -- a stop in the header, with what the sink holds
 pub ends_header : (bytes before : List ℕ) (first left held : Option (List ℕ)) (stop : ReplayStop) → StopsInHeader first left stop → first ≡ Some bytes → held ≡ Some before → Ends bytes before left held stop

@@ -19,6 +19,7 @@ pub(crate) fn header<S: Source>(reading: &mut Reading, input: &mut S) -> Result<
     ensures stopped { IfErr result (StopsInHeader (S.left input.old) (S.left input.new)) }
     ensures count { S.faults input.old ≤ S.faults input.new }
     ensures fault { IsErrOf result ReplayStop.ReadFault → Rose (S.faults input.old) (S.faults input.new) }
+    ensures unwritten { IsErrOf result ReplayStop.WriteFault → ⊥ }
 {
     'lines: loop {
         match reading.take(input)? {

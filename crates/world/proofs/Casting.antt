@@ -1,30 +1,27 @@
 -- What an event makes of the cast of a world is what it makes of the world, where nodes are numbered from 1 on.
-use Rattle.std.proofs.Common.{◌≡◌, ℕ, zero, suc, ◌+◌, ◌-◌, ◌<◌, ◌≤◌, Bool, true, false, cond, eqb, ◌==◌, List, [], ◌∷◌, ◌++◌, length, map, find, get_or, set, Option, Some, None, refl, sym, ap, subst, ◌∙◌, arith, ◌⊎◌, inl, inr}
+use Rattle.std.proofs.Common.{◌≡◌, ℕ, suc, ◌+◌, ◌-◌, ◌<◌, ◌≤◌, Bool, true, false, cond, ◌==◌, List, [], ◌∷◌, ◌++◌, length, map, Option, Some, None, refl, sym, ap, subst, ◌∙◌, arith}
 use Rattle.std.specs.Prelude.{slice_get, slice_set}
 use Rattle.std.specs.List.{range_with_len}
-use Rattle.std.proofs.lemmas.Bool.{eqb-true, eqb-false, eq-eqb}
+use Rattle.std.proofs.lemmas.Bool.{eqb-true, eqb-false}
 use Rattle.std.proofs.lemmas.Bool.Decides.{nat_tests}
 use Rattle.std.proofs.lemmas.List.{append-nil}
 use Rattle.tcs_terms.specs.declared.inputs.Event.{Event}
 use Rattle.tcs_terms.specs.declared.inputs.Event.TheVariants.{Call, DeliverNumber, Stop}
 use Rattle.tcs_terms.specs.declared.inputs.Input.{Input}
 use Rattle.tcs_terms.specs.declared.inputs.Input.TheVariants as inputs
-use Rattle.tcs_terms.specs.declared.inputs.Note.{Note}
 use Rattle.tcs_terms.specs.declared.inputs.Result1.{Result1}
 use Rattle.tcs_terms.specs.declared.inputs.Result1.TheVariants.{Gone, Unsent}
-use Rattle.tcs_terms.specs.Places.{Membership, is_among}
+use Rattle.tcs_terms.specs.Places.{is_among}
 use Rattle.tcs_laws.specs.Certification.{Tests}
 use Rattle.protocol.specs.Choices.{when}
-use Rattle.protocol.specs.Outcomes.{Out}
 use Rattle.protocol.specs.Records.{NodeRecord}
-use Rattle.protocol.specs.Service.{serve}
 use Rattle.protocol.specs.Table.{step}
 use Rattle.protocol.specs.World.{World, Sent, Happening, sent_by, node_of, put_node, give, deliver, deliver_if_sent, node_takes, message_of, passes, world_step}
 use Rattle.protocol.proofs.Lists.{find-StandsIn}
 use Rattle.protocol_laws.proofs.Came.{effect_name}
 use Rattle.protocol_laws.proofs.EffectOf.{effect_of}
 use Rattle.world.specs.Nodes.{AreNamed}
-use Rattle.world.specs.Casts.{Peers, Cast, Doing, rests_with, taken, given, served, delivered, delivered_if_sent, stopping, does, peer_of, with_node, MayReach}
+use Rattle.world.specs.Casts.{Cast, Doing, rests_with, taken, given, delivered, delivered_if_sent, stopping, does, MayReach}
 
 -- the cast of a world
 abbrev pub cast_of : ℕ → World → Cast

@@ -1,8 +1,8 @@
 -- A world before its first event.
-use Rattle.std.proofs.Common.{◌≡◌, ◌≤◌, List, [], refl, arith}
+use Rattle.std.proofs.Common.{◌≡◌, [], refl, arith}
 use Rattle.tcs_terms.specs.Setups.{Deployment, IsDeployment}
 use Rattle.protocol.specs.Limit.{frame_limit}
-use Rattle.protocol.specs.World.{World, first_world}
+use Rattle.protocol.specs.World.{first_world}
 use Rattle.world.specs.Casts.{first_cast}
 use Rattle.world.specs.Soundness.{world_in, GoesOn}
 use Rattle.protocol_laws.proofs.RangesStart.{first_world-in_range}

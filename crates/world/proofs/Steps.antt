@@ -1,13 +1,12 @@
 -- A step of the definition's run, told by what the cast does; and what is true of the world after it.
-use Rattle.std.proofs.Common.{◌≡◌, ◌==◌, ℕ, zero, suc, ◌+◌, ◌-◌, ◌<◌, ◌≤◌, Bool, true, false, cond, List, [], ◌∷◌, ◌++◌, length, map, get_or, set, fold, Option, Some, None, refl, sym, ap, subst, ◌∙◌, arith, ◌⊎◌, inl, inr}
-use Rattle.std.specs.Prelude.{slice_get, slice_set, nat_lt, sum_by, All, IsTrue}
+use Rattle.std.proofs.Common.{◌≡◌, ◌==◌, ℕ, zero, suc, ◌+◌, ◌-◌, ◌<◌, ◌≤◌, Bool, true, false, List, [], ◌∷◌, ◌++◌, length, map, get_or, Option, Some, None, refl, sym, ap, subst, ◌∙◌, arith, ◌⊎◌, inl, inr}
+use Rattle.std.specs.Prelude.{nat_lt, All}
 use Rattle.std.specs.List.{range_with_len}
 use Rattle.std.proofs.Math.Seq.{map-set_same}
-use Rattle.std.specs.Prelude.{nat_le, ◌&&◌}
+use Rattle.std.specs.Prelude.{nat_le}
 use Rattle.std.proofs.lemmas.Bool.{leb-true}
 use Rattle.std.proofs.lemmas.Bool.Decides.{nat_tests}
 use Rattle.std.proofs.lemmas.List.{length-map}
-use Rattle.std.proofs.lemmas.Grind.{fold-append}
 use Rattle.std.proofs.lemmas.List.Sums.{sum_by-append}
 use Rattle.std.proofs.lemmas.Option.{get_or_from_slice_get}
 use Rattle.tcs_terms.specs.declared.inputs.Event.{Event}
@@ -15,10 +14,9 @@ use Rattle.tcs_terms.specs.declared.inputs.Event.TheVariants.{Call, DeliverNumbe
 use Rattle.tcs_terms.specs.declared.inputs.Input.{Input}
 use Rattle.tcs_terms.specs.declared.inputs.Input.TheVariants as inputs
 use Rattle.tcs_terms.specs.declared.inputs.Note.{Note}
-use Rattle.tcs_terms.specs.Events.{InputInRange, has_shard, event_fits, input_fits}
+use Rattle.tcs_terms.specs.Events.{input_fits}
 use Rattle.tcs_terms.specs.declared.messages.Outgoing.{Outgoing}
 use Rattle.tcs_terms.specs.Messages.{InRange}
-use Rattle.tcs_terms.specs.Payloads.{Accesses, IsPayload}
 use Rattle.tcs_terms.specs.Places.{is_among}
 use Rattle.tcs_terms.specs.Setups.{Deployment, IsDeployment, has_node}
 use Rattle.tcs_terms.proofs.BoolLaws.{left_of, right_of}
@@ -26,20 +24,19 @@ use Rattle.tcs_laws.specs.Certification.{Tests}
 use Rattle.tcs_laws.specs.Laws.{IsLawful}
 use Rattle.wire_frame.specs.Spelling.{spell}
 use Rattle.protocol.specs.Choices.{when}
-use Rattle.protocol.specs.Limit.{Progress, Answer, Step, frame_bytes, frame_limit, remains, limited, ends, goes_on, limited_step, limited_run}
+use Rattle.protocol.specs.Limit.{Progress, frame_bytes, frame_limit, remains, ends, goes_on, limited_step, limited_run}
 use Rattle.protocol.specs.Limit.Answer.{Happens, SoupFull}
 use Rattle.protocol.specs.Limit.Progress.{Live, Ended}
 use Rattle.protocol.specs.Records.{NodeRecord}
 use Rattle.protocol.specs.Table.{step}
-use Rattle.protocol.specs.World.{World, Sent, Happening, sent_by, message_of, first_world, world_step}
+use Rattle.protocol.specs.World.{World, Sent, sent_by, message_of, world_step}
 use Rattle.protocol_laws.specs.Promises.{KeepsItsPromises}
-use Rattle.protocol_laws.specs.Ranges.{IsWorldInRange, IsEventInRange, IsHappeningInRange, IsSentInRange, ComesFromNode}
-use Rattle.tcs_terms.specs.Runs.{IsInput, MayStand, AreEventsOf}
-use Rattle.world.specs.Casts.{Peers, Cast, Doing, rests_with, done_by, taken, given, served, delivered, delivered_if_sent, stops_there, stopping, does, peer_of, with_node, MayReach}
+use Rattle.protocol_laws.specs.Ranges.{IsWorldInRange, IsEventInRange, IsHappeningInRange, ComesFromNode}
+use Rattle.tcs_terms.specs.Runs.{MayStand, AreEventsOf}
+use Rattle.world.specs.Casts.{Cast, Doing, taken, given, delivered, delivered_if_sent, stopping, does, peer_of, MayReach}
 use Rattle.world.specs.Soundness.{world_in, GoesOn}
 use Rattle.world.specs.Turns.{sum_with}
-use Rattle.world.specs.Nodes.{AreNamed}
-use Rattle.world.proofs.Casting.{Tells, cast_of, world_with, does_tells}
+use Rattle.world.proofs.Casting.{Tells, does_tells}
 use Rattle.protocol_laws.proofs.PromisesOfRun.{run_keeps_promises}
 use Rattle.protocol_laws.proofs.RunsOn.{limited_run-on}
 use Rattle.protocol_laws.proofs.Came.{effect_name}

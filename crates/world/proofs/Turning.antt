@@ -1,9 +1,9 @@
 -- What one event leaves, told by what was kept of it.
-use Rattle.std.proofs.Common.{◌≡◌, ℕ, ◌+◌, ◌<◌, ◌≤◌, List, ◌++◌, length, sym, ap, subst, ◌∙◌}
+use Rattle.std.proofs.Common.{◌≡◌, ◌+◌, ◌<◌, ◌≤◌, List, ◌++◌, length, ap, subst, ◌∙◌}
 use Rattle.tcs_terms.specs.declared.messages.Outgoing.{Outgoing}
 use Rattle.tcs_terms.specs.declared.inputs.Note.{Note}
 use Rattle.protocol.specs.Limit.{frame_bytes, frame_limit}
-use Rattle.protocol.specs.World.{Sent, sent_by}
+use Rattle.protocol.specs.World.{sent_by}
 use Rattle.world.specs.declared.casts.Doing.{Doing as Told}
 use Rattle.world.specs.declared.happenings.Happening.{Happening}
 use Rattle.world.specs.declared.happenings.Stop.{Stop}
@@ -12,7 +12,7 @@ use Rattle.world.specs.Casts.{Cast, Doing}
 use Rattle.world.specs.Doings.{IsDone}
 use Rattle.world.specs.Orders.{with_commits}
 use Rattle.world.specs.Posting.{IsFull}
-use Rattle.world.specs.Turns.{LedgerState, sum_with, Turned, Filled, IsFilled}
+use Rattle.world.specs.Turns.{LedgerState, sum_with, Turned, IsFilled}
 
 -- what the code sends is what is sent
 sent_same : (told : Told) (now : Cast) (d : Doing) → IsDone told now d → sent_by told.from told.sends.items ≡ sent_by d.from d.sends

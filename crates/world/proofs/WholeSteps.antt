@@ -1,6 +1,5 @@
 -- A step of the world, told by what its turn left.
-use Rattle.std.proofs.Common.{◌≡◌, ℕ, ◌+◌, ◌<◌, ◌≤◌, List, [], ◌∷◌, ◌++◌, length, map, Option, Some, None, Result, Ok, Err, refl, sym, ap, subst, ◌∙◌}
-use Rattle.std.specs.Prelude.{All, sum_by}
+use Rattle.std.proofs.Common.{◌≡◌, ℕ, ◌+◌, ◌++◌, length, Some, None, Ok, Err, sym, ap, subst, ◌∙◌}
 use Rattle.std.proofs.lemmas.List.{length-map}
 use Rattle.std.proofs.lemmas.List.Sums.{sum_by-append}
 use Rattle.tcs_terms.specs.declared.inputs.Event.{Event}
@@ -9,15 +8,13 @@ use Rattle.tcs_terms.specs.Setups.{Deployment}
 use Rattle.tcs_laws.specs.Certification.{Tests}
 use Rattle.wire_frame.specs.Spelling.{spell}
 use Rattle.protocol.specs.History.{order_of}
-use Rattle.protocol.specs.Limit.{Answer, Progress, Step, frame_bytes, frame_limit, remains, limited_step}
-use Rattle.protocol.specs.Limit.Answer.{Happens, SoupFull}
+use Rattle.protocol.specs.Limit.{Step, frame_bytes, remains, limited_step}
 use Rattle.protocol.specs.Limit.Progress.{Live, Ended}
-use Rattle.protocol.specs.World.{World, Sent, sent_by}
+use Rattle.protocol.specs.World.{Sent, sent_by}
 use Rattle.tcs_terms.specs.Runs.{MayStand}
 use Rattle.world.specs.declared.happenings.Happening.{Happening}
-use Rattle.world.specs.declared.happenings.Stop.{Stop}
 use Rattle.world.specs.declared.happenings.Stop.TheVariants as stops
-use Rattle.world.specs.Casts.{Cast, Doing, does, MayReach}
+use Rattle.world.specs.Casts.{Cast, does}
 use Rattle.world.specs.Orders.{with_commits}
 use Rattle.world.specs.Soundness.{world_in, GoesOn, IsSound}
 use Rattle.world.specs.Turns.{LedgerState, sum_with, Turned, Filled}

@@ -1,5 +1,5 @@
 -- A mark for each name, so that no list of names is searched.
-use Rattle.std.specs.Prelude.{◌≡◌, ℕ, ◌<◌, ◌^◌, Bool, false, List, length, slice_index_or}
+use Rattle.std.specs.Prelude.{◌≡◌, ℕ, ◌<◌, Bool, false, List, length, slice_index_or}
 use Rattle.tcs_terms.specs.Places.{is_among}
 
 -- the marks of these names stand, and no other

@@ -1,6 +1,5 @@
 -- What the arena of frames tells of a message, and of one that was not kept.
-use Rattle.std.specs.Prelude.{◌≡◌, ℕ, ◌<◌, ◌≤◌, List, Option, Some, None, slice_index}
-use Rattle.tcs_terms.specs.declared.limits.TheConstants.{MAX_KIND}
+use Rattle.std.specs.Prelude.{◌≡◌, ℕ, ◌<◌, List, Option, Some, None}
 use Rattle.tcs_terms.specs.Messages.{InRange}
 use Rattle.wire_frame.specs.Spelling.{spell}
 use Rattle.protocol.specs.Limit.{frame_limit}

@@ -1,11 +1,10 @@
 -- What a contract sees of a world, and of what its steps answer.
-use Rattle.std.specs.Prelude.{◌≡◌, ℕ, Bool, true, false, List, length, Option, Some, None, Result, Ok, Err}
+use Rattle.std.specs.Prelude.{◌≡◌, ℕ, Bool, true, false, length, Option, Some, None, Result, Ok, Err}
 use Rattle.tcs_terms.specs.Setups.{Deployment}
-use Rattle.wire_frame.specs.Spelling.{spell}
 use Rattle.protocol.specs.Limit.{Progress, Answer, remains}
 use Rattle.protocol.specs.Limit.Progress.{Live, Ended}
 use Rattle.protocol.specs.Limit.Answer.{Happens, SoupFull}
-use Rattle.protocol.specs.World.{World, Sent}
+use Rattle.protocol.specs.World.{World}
 use Rattle.world.specs.declared.happenings.Happening.{Happening}
 use Rattle.world.specs.declared.happenings.Stop.{Stop}
 use Rattle.world.specs.declared.happenings.Stop.TheVariants as stops

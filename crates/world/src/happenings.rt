@@ -2,6 +2,7 @@
 
 use std::alloc::AllocError;
 use tcs_terms::{NodeId, OutOfMemory, Result1};
+use thiserror::Error;
 
 /// What became of an event: its result, how many notes it added to the history, and how many messages it sent.
 #[derive(Clone, Copy, Debug, PartialEq, Eq)]
@@ -12,10 +13,12 @@ pub struct Happening {
 }
 
 /// Why an event was not taken.
-#[derive(Clone, Copy, Debug, PartialEq, Eq)]
+#[derive(Clone, Copy, Debug, PartialEq, Eq, Error)]
 pub enum Stop {
     /// With it the frames of the run would have this many bytes, which is above the limit.
+    #[error("the messages would have {0} bytes")]
     SoupFull(u64),
+    #[error("out of memory")]
     OutOfMemory,
 }
 

@@ -9,6 +9,8 @@ mod happenings;
 mod orders;
 mod peers;
 mod stopped;
+#[cfg(test)]
+mod tests;
 mod turns;
 mod worlds;
 

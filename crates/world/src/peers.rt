@@ -36,12 +36,11 @@ impl<G: VoteGuard> Model for Peers<G> {
     ghost invariant = { λ p. ArePeers (version_number p.version) p.nodes.items };
 }
 
-/// The node of a name, from 1, where the first node stands first.
-fn node_at<G: VoteGuard>(nodes: &[Node<G>], name: NodeId) -> Option<&Node<G>>
-    requires { 1 ≤ name }
-    ensures { option_copied result ≡ slice_get nodes.now (name - 1) }
+/// The node in a place, from 0.
+fn node_at<G: VoteGuard>(nodes: &[Node<G>], place: usize) -> Option<&Node<G>>
+    ensures { option_copied result ≡ slice_get nodes.now place }
 {
-    nodes.get(usize::from(name) - 1)
+    nodes.get(place)
 }
 
 impl<G: VoteGuard> Peers<G> {
@@ -79,7 +78,7 @@ impl<G: VoteGuard> Peers<G> {
         requires { 1 ≤ name }
         ensures { option_map (λ n. n.kept) (option_copied result) ≡ peer_of self.now name }
     {
-        node_at(&self.nodes, name)
+        node_at(&self.nodes, usize::from(name) - 1)
     }
 
     /// The node of that name takes an input. What it sends and notes is appended.

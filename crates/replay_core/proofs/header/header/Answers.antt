@@ -1,6 +1,6 @@
-use Rattle.std.proofs.Common.{arith}
+use Rattle.std.proofs.Common.{Err, arith, ap, sym, ◌∙◌}
 use Rattle.std.proofs.lemmas.Result.{err_from_is_err_and}
-use Rattle.replay_core.proofs.Heading.{header_on, header_fewer, header_begun, header_no_event, header_no_end, header_stops}
+use Rattle.replay_core.proofs.Heading.{header_on, header_fewer, header_begun, header_no_event, header_no_end, header_stops, header_unwritten}
 use Rattle.replay_core.proofs.Taking.{few_taken}
 use Rattle.replay_core.proofs.header.header.Goals as goal
 
@@ -11,6 +11,11 @@ pub returns-in_err-take-clause-stopped : goal.returns-in_err-take-clause-stopped
 returns-in_err-take-clause-stopped g c =
     let p = err_from_is_err_and c.from_residual.result c.from_residual.ensures.1 in
     rw (p.1, p.2) (header_stops c.lines.reading _ _ _ _ c.lines.invariant.stands c.in_err-take.ensures.stop)
+
+pub returns-in_err-take-clause-unwritten : goal.returns-in_err-take-clause-unwritten
+returns-in_err-take-clause-unwritten g c = λ told.
+    let p = err_from_is_err_and c.from_residual.result c.from_residual.ensures.1 in
+    header_unwritten c.lines.reading _ _ _ c.in_err-take.ensures.stop (ap Err (sym p.2) ∙ sym p.1 ∙ told)
 
 pub lines-smaller : goal.lines-smaller
 lines-smaller g c =

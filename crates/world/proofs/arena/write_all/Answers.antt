@@ -1,7 +1,7 @@
-use Rattle.std.proofs.Common.{sym, ◌∙◌, subst, take, ◌++◌, ◌∷◌, [], rules}
+use Rattle.std.proofs.Common.{sym, subst}
 use Rattle.tcs_terms.proofs.Appending.{begins_behind}
 use Rattle.world.specs.Writing.{Grown}
-use Rattle.world.proofs.Writing.{grown-none, grown-count, grown-more, up_to_next}
+use Rattle.world.proofs.Writing.{grown-count, grown-more, up_to_next}
 use Rattle.world.proofs.arena.write_all.Goals as goal
 
 pub write_one-requires-clause-before : goal.write_one-requires-clause-before

@@ -1,4 +1,4 @@
-use Rattle.std.proofs.Common.{◌≡◌, List, length, refl, sym, ap, ◌∙◌}
+use Rattle.std.proofs.Common.{List, length, refl, sym, ap, ◌∙◌}
 use Rattle.protocol.specs.World.{Sent}
 use Rattle.world.specs.Turns.{LedgerState}
 use Rattle.world.proofs.Turning.{filled, turned}

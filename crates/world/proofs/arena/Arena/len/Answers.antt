@@ -1,4 +1,4 @@
-use Rattle.std.proofs.Common.{◌≤◌, length, arith}
+use Rattle.std.proofs.Common.{◌≤◌, arith}
 use Rattle.protocol.specs.Limit.{frame_limit}
 use Rattle.world.proofs.Letters.{limit_is, letters_few}
 use Rattle.world.proofs.arena.Arena.len.Goals as goal

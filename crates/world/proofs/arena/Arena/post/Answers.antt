@@ -1,9 +1,9 @@
-use Rattle.std.proofs.Common.{◌≡◌, ◌≤◌, ◌+◌, ◌++◌, List, ℕ, refl, sym, ap, subst, ◌∙◌, arith}
-use Rattle.protocol.specs.Limit.{frame_bytes, frame_limit}
+use Rattle.std.proofs.Common.{◌≡◌, ◌+◌, ap, ◌∙◌, arith}
+use Rattle.protocol.specs.Limit.{frame_bytes}
 use Rattle.protocol.specs.World.{sent_by}
 use Rattle.world.specs.Frames.{read_all}
 use Rattle.world.proofs.Letters.{limit_is, arena_sum}
-use Rattle.world.proofs.Writing.{KeptAll, kept_all}
+use Rattle.world.proofs.Writing.{kept_all}
 use Rattle.world.proofs.arena.Arena.post.Goals as goal
 use Rattle.world.proofs.arena.Arena.post.Goals.{in-Ok+else-sum-le-FRAME_LIMIT, in-Err}
 

@@ -1,7 +1,6 @@
-use Rattle.std.proofs.Common.{◌≡◌, ◌≤◌, ◌-◌, List, ℕ, Some, None, take, drop, refl, sym, ap, ◌∙◌, arith}
+use Rattle.std.proofs.Common.{List, ℕ, refl, sym, ap, ◌∙◌, arith}
 use Rattle.std.specs.Prelude.{slice_range}
-use Rattle.world.specs.Frames.{letter_at}
-use Rattle.world.proofs.Letters.{Found, found, not_found}
+use Rattle.world.proofs.Letters.{found}
 use Rattle.world.proofs.arena.Arena.posted.Goals as goal
 
 pub slice_bounds-result-count : goal.slice_bounds-result-count

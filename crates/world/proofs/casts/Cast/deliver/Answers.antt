@@ -1,4 +1,4 @@
-use Rattle.std.proofs.Common.{◌≡◌, ◌≤◌, refl, sym, ap, ◌∙◌, arith}
+use Rattle.std.proofs.Common.{arith}
 use Rattle.world.proofs.CastLaws.{done_if, delivered_served, delivered_given}
 use Rattle.world.proofs.casts.Cast.deliver.Goals as goal
 

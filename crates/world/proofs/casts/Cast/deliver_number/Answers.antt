@@ -1,4 +1,4 @@
-use Rattle.std.proofs.Common.{◌≡◌, refl}
+use Rattle.std.proofs.Common.{refl}
 use Rattle.world.proofs.CastLaws.{none_there, some_there}
 use Rattle.world.proofs.casts.Cast.deliver_number.Goals as goal
 

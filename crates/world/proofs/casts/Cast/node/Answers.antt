@@ -1,4 +1,4 @@
-use Rattle.std.proofs.Common.{◌≡◌, ◌≤◌, refl, sym, ap, ◌∙◌, arith}
+use Rattle.std.proofs.Common.{sym, ap, ◌∙◌, arith}
 use Rattle.protocol.specs.World.{node_of}
 use Rattle.world.proofs.Casting.{node_at, no_node}
 use Rattle.world.proofs.casts.Cast.node.Goals as goal

@@ -1,8 +1,7 @@
-use Rattle.std.proofs.Common.{◌≡◌, ℕ, ◌++◌, List, [], length, refl, sym, ap, ◌∙◌}
+use Rattle.std.proofs.Common.{List, length, refl, sym, ap, ◌∙◌}
 use Rattle.tcs_terms.specs.declared.inputs.Handled.{Handled}
 use Rattle.tcs_terms.specs.declared.inputs.Result1.TheVariants.{Node}
 use Rattle.tcs_terms.specs.Places.{Membership}
-use Rattle.protocol.specs.Service.{serve}
 use Rattle.world.specs.Casts.{Cast}
 use Rattle.world.proofs.CastLaws.{serves_silently}
 use Rattle.world.proofs.casts.Cast.serve.Goals as goal

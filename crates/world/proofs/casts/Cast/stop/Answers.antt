@@ -1,4 +1,4 @@
-use Rattle.std.proofs.Common.{◌≡◌, ℕ, List, refl, sym, ap, ◌∙◌}
+use Rattle.std.proofs.Common.{ℕ, List, refl, sym, ap, ◌∙◌}
 use Rattle.world.specs.Casts.{Cast}
 use Rattle.world.proofs.CastLaws.{done_as, stopping_gone, stopping_done}
 use Rattle.world.proofs.casts.Cast.stop.Goals as goal

@@ -1,4 +1,4 @@
-use Rattle.std.proofs.Common.{◌≡◌, refl}
+use Rattle.std.proofs.Common.{refl}
 use Rattle.world.proofs.CastLaws.{done_if, does_call, does_delivery, does_stop}
 use Rattle.world.proofs.casts.Cast.take_event.Goals as goal
 

@@ -1,11 +1,11 @@
-use Rattle.std.proofs.Common.{◌≡◌, ℕ, ◌-◌, ◌<◌, ◌≤◌, ◌++◌, List, Result, Ok, Err, IfOk, Some, length, get_or, set, map, refl, sym, ap, ◌∙◌, subst, arith}
+use Rattle.std.proofs.Common.{◌≡◌, ℕ, ◌-◌, ◌<◌, ◌≤◌, ◌++◌, List, Result, Ok, Err, IfOk, Some, length, get_or, set, map, ap, ◌∙◌, arith}
 use Rattle.std.specs.Prelude.{OnOk}
 use Rattle.std.proofs.lemmas.List.{map-set, length-map}
 use Rattle.tcs_terms.specs.Versions.{version_number}
 use Rattle.protocol.specs.Records.{NodeRecord}
 use Rattle.protocol.specs.Table.{step}
 use Rattle.node_core.specs.State.{NodeState}
-use Rattle.world.specs.Casts.{Peers, peer_of, with_node}
+use Rattle.world.specs.Casts.{Peers, peer_of}
 use Rattle.world.proofs.PeerLaws.{Kept, peer_found, each-at, with_peer}
 use Rattle.world.proofs.peers.Peers.step.Given.{Over}
 use Rattle.world.proofs.peers.Peers.step.Goals as goal

@@ -1,4 +1,4 @@
-use Rattle.std.proofs.Common.{◌≡◌, refl}
+use Rattle.std.proofs.Common.{refl}
 use Rattle.protocol.specs.World.{first_world}
 use Rattle.world.proofs.FirstWorlds.{first_goes_on}
 use Rattle.world.proofs.worlds.World.new.Goals as goal

@@ -1,4 +1,4 @@
-use Rattle.std.proofs.Common.{◌≡◌, refl}
+use Rattle.std.proofs.Common.{refl}
 use Rattle.world.proofs.Standing.{standing}
 use Rattle.world.proofs.worlds.World.node.Goals as goal
 

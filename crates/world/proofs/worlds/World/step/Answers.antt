@@ -1,9 +1,9 @@
-use Rattle.std.proofs.Common.{◌≡◌, ◌<◌, true, false, refl, sym, ap, ◌∙◌, arith}
+use Rattle.std.proofs.Common.{◌≡◌, ◌<◌, true, false, refl, arith}
 use Rattle.protocol.specs.Limit.{limited_step}
 use Rattle.world.proofs.Standing.{standing}
 use Rattle.world.proofs.Steps.{may_reach, sends_in_range, promises_after}
 use Rattle.world.proofs.Views.{kept_events}
-use Rattle.world.proofs.WholeSteps.{GoesTo, EndsWith, goes_to, ends_with}
+use Rattle.world.proofs.WholeSteps.{goes_to, ends_with}
 use Rattle.world.proofs.worlds.World.step.Goals as goal
 
 -- ---- a spent world
