@@ -117,6 +117,9 @@ header_stops old first left left' stop h x = λ bytes told.
     let at = stops_at bytes old left left' h.items stop (h.read bytes told) (kept_none h.items h.none) x in
     (at.rest, at.told, subst (λ (t : List ℕ). Stopped bytes at.rest t stop) (shows_none h.items h.none) at.stopped)
 
+pub err_same : {X : Type 0} (e f : ReplayStop) → ◌≡◌ {A = Result X ReplayStop} (Err e) (Err f) → e ≡ f
+err_same e f h = cc
+
 -- nothing was to be written
 pub header_unwritten : {X : Type 0} (old : Reading) (left left' : Option (List ℕ)) (stop : ReplayStop) → Refuses old left left' stop → ◌≡◌ {A = Result X ReplayStop} (Err stop) (Err stops.WriteFault) → ⊥
 header_unwritten old left left' (stops.Bad number reason) x told = absurd cc
