@@ -1,2 +1,2 @@
 pub mod OneWord
-pub mod Stops
+pub mod Statuses
