@@ -1,6 +1,6 @@
 //! The worked runs, by the names of their files.
 
-pub const WORKED_RUNS: [&str; 42] = [
+pub(crate) const WORKED_RUNS: [&str; 42] = [
     "abort_names_lowest_shard",
     "accept_phase",
     "acknowledgement_missing",

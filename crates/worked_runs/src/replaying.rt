@@ -7,14 +7,18 @@ use tcs_run::{Status, run};
 
 /// What came of a replay: how it ended, what it wrote, and how many bytes it left unread.
 #[derive(Drop)]
-pub struct Replayed {
-    pub status: Status,
-    pub written: Vec<u8>,
-    pub left: usize,
+pub(crate) struct Replayed {
+    pub(crate) status: Status,
+    pub(crate) written: Vec<u8>,
+    pub(crate) left: usize,
 }
 
 /// Replays a schedule from a source that gives at most so many bytes a read, and at least one.
-pub fn replayed(alloc: Global, schedule: &[u8], most: usize) -> Result<Replayed, AllocError> {
+pub(crate) fn replayed(
+    alloc: Global,
+    schedule: &[u8],
+    most: usize,
+) -> Result<Replayed, AllocError> {
     let mut words = Vec::new(alloc);
     words
         .push(String::from_str(alloc, "replay")?)
@@ -31,10 +35,10 @@ pub fn replayed(alloc: Global, schedule: &[u8], most: usize) -> Result<Replayed,
 
 /// How the replays of one schedule end, and whether each of them wrote the trace.
 #[derive(Clone, Copy, Debug, PartialEq, Eq)]
-pub struct Ending {
-    pub status: Status,
-    pub alike: bool,
-    pub traced: bool,
+pub(crate) struct Ending {
+    pub(crate) status: Status,
+    pub(crate) alike: bool,
+    pub(crate) traced: bool,
 }
 
 impl Display for Ending {
@@ -51,7 +55,7 @@ impl Display for Ending {
 }
 
 /// How these replays of one schedule end; where there is none, out of memory.
-pub fn ending(replays: &[Replayed], trace: &[u8]) -> Ending {
+pub(crate) fn ending(replays: &[Replayed], trace: &[u8]) -> Ending {
     let status = match replays {
         [first, ..] => first.status,
         [] => Status::OutOfMemory,
@@ -59,6 +63,8 @@ pub fn ending(replays: &[Replayed], trace: &[u8]) -> Ending {
     Ending {
         status,
         alike: replays.iter().all(|replay| replay.status == status),
-        traced: replays.iter().all(|replay| replay.written == trace),
+        traced: replays
+            .iter()
+            .all(|replay| replay.written.as_slice() == trace),
     }
 }
