@@ -50,19 +50,19 @@ const NODE_AGAIN: &str = concat!(
 
 /// How a replay ended, what it wrote, and how many bytes it left.
 #[derive(Drop)]
-struct Replayed {
+struct Outcome {
     answer: Result<(), ReplayStop>,
     written: Vec<u8>,
     left: usize,
 }
 
 /// Replays a text of which a read gives at most so many bytes.
-fn replayed(alloc: Global, text: &str, most: usize, writes: &[u32]) -> Result<Replayed, Fail> {
+fn replayed(alloc: Global, text: &str, most: usize, writes: &[u32]) -> Result<Outcome, Fail> {
     let bytes = text.as_bytes().to_vec(alloc)?;
     let mut input = MemSource::new(bytes, most.max(1), Vec::new(alloc));
     let mut output = MemSink::new(alloc, writes.to_vec(alloc)?);
     let answer = replay(alloc, &mut input, &mut output);
-    Ok(Replayed {
+    Ok(Outcome {
         answer,
         written: output.bytes().to_vec(alloc)?,
         left: input.left().len(),
