@@ -28,9 +28,9 @@ commute_lawful = lawful_by_sight truly_seen part_truly_sees unseen_truly
 abbrev pub counts_sight : Accesses → List ℕ → Bool
 counts_sight p name = not (adds_to p name)
 
-turned_round : (b : Bool) (none some : Option ℕ) → cond b none some ≡ cond (not b) some none
-turned_round true none some = refl
-turned_round false none some = refl
+turned_round : (b : Bool) (absent present : Option ℕ) → cond b absent present ≡ cond (not b) present absent
+turned_round true absent present = refl
+turned_round false absent present = refl
 
 same_truly : (p : Accesses) (name : List ℕ) → truly_seen p name ≡ counted counts_sight p name
 same_truly p name = turned_round (adds_to p name) None (seen p name)

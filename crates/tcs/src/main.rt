@@ -1,30 +1,14 @@
-//! The program `tcs`: `tcs replay` reads a schedule from standard input and writes the trace of its run to standard
-//! output.
+//! The program `tcs`: hands its words and the standard streams to the top call, and tells how that ended.
 #![tactic(auto)]
 
-mod log;
-mod node;
-mod order;
-mod replay;
-mod replayer;
-mod run;
-mod schedule;
-mod status;
-#[cfg(test)]
-mod tests;
-mod trace;
-mod turns;
-mod world;
-
-use run::run;
-use status::Status;
 use std::process::ExitCode;
 use std::{env, io};
 use tcs_io::{StdSink, StdSource};
+use tcs_run::{Status, after_flush, run};
 
 fn main(rt: HostRuntime) -> ExitCode {
     let status = serve(&rt);
-    if status != Status::Ok {
+    if status.code() > 1 {
         // Where standard error is closed the exit number still tells.
         let _ = eprintln!(rt; "tcs: {status}");
     }
@@ -49,16 +33,5 @@ fn serve(rt: &HostRuntime) -> Status {
         return Status::OutOfMemory;
     };
     let status = run(rt.alloc(), &words, &mut input, &mut output);
-    match output.flush() {
-        Ok(()) => status,
-        Err(_) => after_flush(status),
-    }
-}
-
-/// A run that went well but for the last bytes did not go well.
-fn after_flush(status: Status) -> Status {
-    match status {
-        Status::Ok => Status::WriteFault,
-        other => other,
-    }
+    after_flush(status, &mut output)
 }

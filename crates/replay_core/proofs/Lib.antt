@@ -1,0 +1,11 @@
+pub mod Completing
+pub mod Finishing
+pub mod Going
+pub mod Heading
+pub mod Messages
+pub mod Places
+pub mod Promised
+pub mod Steps
+pub mod Taking
+pub mod TraceLemmas
+pub mod Working

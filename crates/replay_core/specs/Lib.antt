@@ -1,0 +1,4 @@
+pub mod Replays
+pub mod Standing
+pub mod Steps
+pub mod Trace

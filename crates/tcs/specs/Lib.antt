@@ -1,9 +1,0 @@
-pub mod Node
-pub mod World
-pub mod Steps
-pub mod Schedule
-pub mod Reader
-pub mod Trace
-pub mod Replay
-pub mod Lines
-pub mod Status

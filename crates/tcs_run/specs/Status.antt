@@ -1,0 +1,35 @@
+-- What the program says of how it ended.
+use Rattle.std.specs.Prelude.{ℕ, List, ◌++◌, codes, decimal}
+use Rattle.tcs_terms.specs.Words.{reason_text}
+use Rattle.replay_core.specs.declared.stops.ReplayStop.{ReplayStop}
+use Rattle.replay_core.specs.declared.stops.ReplayStop.TheVariants as stops
+use Rattle.tcs_run.specs.declared.status.Status.{Status}
+use Rattle.tcs_run.specs.declared.status.Status.TheVariants as statuses
+
+-- the number with which the program exits
+abbrev pub exit_number : Status → ℕ
+exit_number statuses.Ok = 0
+exit_number statuses.BadWords = 2
+exit_number (statuses.Bad line reason) = 3
+exit_number statuses.ReadFault = 4
+exit_number statuses.WriteFault = 5
+exit_number statuses.OutOfMemory = 6
+exit_number (statuses.Full bytes) = 7
+
+-- the text of a status
+abbrev pub status_text : Status → List ℕ
+status_text statuses.Ok = codes "ok"
+status_text statuses.BadWords = codes "bad words"
+status_text (statuses.Bad line reason) = codes "bad line " ++ (decimal line ++ (codes ": " ++ reason_text reason))
+status_text statuses.ReadFault = codes "read fault"
+status_text statuses.WriteFault = codes "write fault"
+status_text statuses.OutOfMemory = codes "out of memory"
+status_text (statuses.Full bytes) = codes "full: " ++ (decimal bytes ++ codes " bytes")
+
+-- the status of a replay that stopped
+abbrev pub status_of : ReplayStop → Status
+status_of (stops.Bad line reason) = statuses.Bad line reason
+status_of stops.ReadFault = statuses.ReadFault
+status_of stops.WriteFault = statuses.WriteFault
+status_of (stops.Full bytes) = statuses.Full bytes
+status_of stops.OutOfMemory = statuses.OutOfMemory

@@ -1,0 +1,15 @@
+//! The top call of the program `tcs`, over any source and any sink: the words of its command line, what each command does,
+//! and how a run ends.
+#![tactic(auto)]
+
+mod command;
+mod flush;
+mod running;
+mod status;
+#[cfg(test)]
+mod tests;
+
+pub use command::Command;
+pub use flush::after_flush;
+pub use running::run;
+pub use status::Status;

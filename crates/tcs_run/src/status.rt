@@ -1,0 +1,79 @@
+//! How a run of the program ends.
+ghost use Rattle.std.specs.Prelude.{◌≡◌};
+ghost use Rattle.tcs_run.specs.Status.{exit_number};
+
+use replay_core::ReplayStop;
+use std::fmt::{self, Display, Formatter};
+use tcs_terms::Reason;
+
+/// How a run of the program ended. The program exits with its number, and its text goes to standard error where the number
+/// is above 1.
+#[derive(Clone, Copy, Debug, PartialEq, Eq)]
+pub enum Status {
+    /// All of the input was read, and all that belongs to it was written.
+    Ok,
+    /// The words name no command.
+    BadWords,
+    /// This line of the schedule, from 1, is the first outside the grammar, for this reason.
+    Bad { line: u32, reason: Reason },
+    /// Reading failed.
+    ReadFault,
+    /// Writing failed.
+    WriteFault,
+    OutOfMemory,
+    /// With the next event the frames of the run would have this many bytes, which is above the limit.
+    Full(u64),
+}
+
+impl Status {
+    /// The exit number: 0 for `Ok`, and from 2 to 7 for the others.
+    pub fn code(self) -> u8
+        ensures { result ≡ exit_number self }
+    {
+        match self {
+            Status::Ok => 0,
+            Status::BadWords => 2,
+            Status::Bad { .. } => 3,
+            Status::ReadFault => 4,
+            Status::WriteFault => 5,
+            Status::OutOfMemory => 6,
+            Status::Full(_) => 7,
+        }
+    }
+}
+
+impl From<ReplayStop> for Status {
+    ghost use Rattle.std.specs.Prelude.{◌≡◌};
+    ghost use Rattle.tcs_run.specs.Status.{status_of};
+
+    ghost from_gives = { λ stop status. status ≡ status_of stop };
+
+    fn from(stop: ReplayStop) -> Status {
+        match stop {
+            ReplayStop::Bad { line, reason } => Status::Bad { line, reason },
+            ReplayStop::ReadFault => Status::ReadFault,
+            ReplayStop::WriteFault => Status::WriteFault,
+            ReplayStop::OutOfMemory => Status::OutOfMemory,
+            ReplayStop::Full(bytes) => Status::Full(bytes),
+        }
+    }
+}
+
+impl Display for Status {
+    ghost use Rattle.std.specs.Prelude.{Some};
+    ghost use Rattle.tcs_run.specs.Status.{status_text};
+
+    ghost output = { λ status. Some (status_text status) };
+
+    fn fmt<W: fmt::Write>(&self, f: &mut Formatter<W>) -> fmt::Result {
+        match *self {
+            Status::Ok => f.write_str("ok"),
+            Status::BadWords => f.write_str("bad words"),
+            Status::Bad { line, reason } => write!(f, "bad line {line}: {reason}"),
+            Status::ReadFault => f.write_str("read fault"),
+            Status::WriteFault => f.write_str("write fault"),
+            Status::OutOfMemory => f.write_str("out of memory"),
+            Status::Full(bytes) => write!(f, "full: {bytes} bytes"),
+        }
+    }
+}

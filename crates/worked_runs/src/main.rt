@@ -1,0 +1,46 @@
+//! Puts the worked runs through the top call: each schedule of the folder that it runs in, by a source that gives at most
+//! 4,096 bytes a read, and where a line of it is bad also by sources that give 1 and 7. What is written is compared with the
+//! trace beside the schedule, byte for byte.
+#![tactic(auto)]
+
+mod names;
+mod replaying;
+
+use anyhow::Error;
+use names::WORKED_RUNS;
+use replaying::{Ending, ending, replayed};
+use std::fs;
+use std::rt::Files;
+use tcs_run::Status;
+
+fn main(rt: HostRuntime) -> Result<(), Error> {
+    for name in WORKED_RUNS {
+        let ending = worked_run(&rt, name)?;
+        println!(rt; "{name}: {ending}")?;
+    }
+    let left = left_at_the_bad_line(&rt)?;
+    println!(rt; "bad_line_order, byte by byte: {left} bytes are not read")?;
+    Ok(())
+}
+
+/// How the run of this name ends.
+fn worked_run<R: Files + AllocGlobal>(rt: &R, name: &str) -> Result<Ending, Error> {
+    let schedule = fs::read(rt, format!(in rt.alloc(); "{name}.sched")?)?;
+    let trace = fs::read(rt, format!(in rt.alloc(); "{name}.trace")?)?;
+    let replay = replayed(rt.alloc(), &schedule, 4096)?;
+    let is_whole = replay.status == Status::Ok;
+    let mut replays = vec![in rt.alloc(); replay]?;
+    if !is_whole {
+        for most in [1, 7] {
+            replays.push(replayed(rt.alloc(), &schedule, most)?)?;
+        }
+    }
+    Ok(ending(&replays, &trace))
+}
+
+/// How many bytes a source that gives one byte a read has left when the fifth line is refused: all that stand behind it.
+fn left_at_the_bad_line<R: Files + AllocGlobal>(rt: &R) -> Result<usize, Error> {
+    let schedule = fs::read(rt, "bad_line_order.sched")?;
+    let replayed = replayed(rt.alloc(), &schedule, 1)?;
+    Ok(replayed.left)
+}

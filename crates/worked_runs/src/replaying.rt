@@ -1,0 +1,70 @@
+//! One replay in memory, and what came of it.
+
+use std::alloc::{AllocError, Global};
+use std::fmt::{self, Display, Formatter};
+use tcs_io::{MemSink, MemSource};
+use tcs_run::{Status, run};
+
+/// What came of a replay: how it ended, what it wrote, and how many bytes it left unread.
+#[derive(Drop)]
+pub(crate) struct Replayed {
+    pub(crate) status: Status,
+    pub(crate) written: Vec<u8>,
+    pub(crate) left: usize,
+}
+
+/// Replays a schedule from a source that gives at most so many bytes a read, and at least one.
+pub(crate) fn replayed(
+    alloc: Global,
+    schedule: &[u8],
+    most: usize,
+) -> Result<Replayed, AllocError> {
+    let mut words = Vec::new(alloc);
+    words
+        .push(String::from_str(alloc, "replay")?)
+        .map_err(|_| AllocError)?;
+    let mut input = MemSource::new(schedule.to_vec(alloc)?, most.max(1), Vec::new(alloc));
+    let mut output = MemSink::new(alloc, Vec::new(alloc));
+    let status = run(alloc, &words, &mut input, &mut output);
+    Ok(Replayed {
+        status,
+        written: output.bytes().to_vec(alloc)?,
+        left: input.left().len(),
+    })
+}
+
+/// How the replays of one schedule end, and whether each of them wrote the trace.
+#[derive(Clone, Copy, Debug, PartialEq, Eq)]
+pub(crate) struct Ending {
+    pub(crate) status: Status,
+    pub(crate) alike: bool,
+    pub(crate) traced: bool,
+}
+
+impl Display for Ending {
+    fn fmt<W: fmt::Write>(&self, f: &mut Formatter<W>) -> fmt::Result {
+        write!(f, "{} {}", self.status.code(), self.status)?;
+        if !self.alike {
+            return f.write_str(", not for all reads alike");
+        }
+        match self.traced {
+            true => f.write_str(", the trace as written"),
+            false => f.write_str(", another trace"),
+        }
+    }
+}
+
+/// How these replays of one schedule end; where there is none, out of memory.
+pub(crate) fn ending(replays: &[Replayed], trace: &[u8]) -> Ending {
+    let status = match replays {
+        [first, ..] => first.status,
+        [] => Status::OutOfMemory,
+    };
+    Ending {
+        status,
+        alike: replays.iter().all(|replay| replay.status == status),
+        traced: replays
+            .iter()
+            .all(|replay| replay.written.as_slice() == trace),
+    }
+}

@@ -1,0 +1,12 @@
+pub mod Letters
+pub mod Writing
+pub mod CommitOrder
+pub mod Casting
+pub mod Steps
+pub mod PeerLaws
+pub mod CastLaws
+pub mod WholeSteps
+pub mod Views
+pub mod FirstWorlds
+pub mod Turning
+pub mod Standing

@@ -1,0 +1,11 @@
+pub mod Frames
+pub mod Posting
+pub mod Writing
+pub mod Casts
+pub mod Nodes
+pub mod Doings
+pub mod Orders
+pub mod Turns
+pub mod Marks
+pub mod WorldState
+pub mod Soundness
