@@ -8,7 +8,7 @@ mod replaying;
 
 use anyhow::Error;
 use names::WORKED_RUNS;
-use replaying::{Ending, ending, replayed};
+use replaying::{Ending, ending_of, replay_of};
 use std::fs;
 use std::rt::Files;
 use tcs_run::Status;
@@ -27,20 +27,20 @@ fn main(rt: HostRuntime) -> Result<(), Error> {
 fn worked_run<R: Files + AllocGlobal>(rt: &R, name: &str) -> Result<Ending, Error> {
     let schedule = fs::read(rt, format!(in rt.alloc(); "{name}.sched")?)?;
     let trace = fs::read(rt, format!(in rt.alloc(); "{name}.trace")?)?;
-    let replay = replayed(rt.alloc(), &schedule, 4096)?;
+    let replay = replay_of(rt.alloc(), &schedule, 4096)?;
     let is_whole = replay.status == Status::Ok;
     let mut replays = vec![in rt.alloc(); replay]?;
     if !is_whole {
         for most in [1, 7] {
-            replays.push(replayed(rt.alloc(), &schedule, most)?)?;
+            replays.push(replay_of(rt.alloc(), &schedule, most)?)?;
         }
     }
-    Ok(ending(&replays, &trace))
+    Ok(ending_of(&replays, &trace))
 }
 
 /// How many bytes a source that gives one byte a read has left when the fifth line is refused: all that stand behind it.
 fn left_at_the_bad_line<R: Files + AllocGlobal>(rt: &R) -> Result<usize, Error> {
     let schedule = fs::read(rt, "bad_line_order.sched")?;
-    let replayed = replayed(rt.alloc(), &schedule, 1)?;
-    Ok(replayed.left)
+    let replay = replay_of(rt.alloc(), &schedule, 1)?;
+    Ok(replay.left)
 }

@@ -14,7 +14,7 @@ pub(crate) struct Replayed {
 }
 
 /// Replays a schedule from a source that gives at most so many bytes a read, and at least one.
-pub(crate) fn replayed(
+pub(crate) fn replay_of(
     alloc: Global,
     schedule: &[u8],
     most: usize,
@@ -55,7 +55,7 @@ impl Display for Ending {
 }
 
 /// How these replays of one schedule end; where there is none, out of memory.
-pub(crate) fn ending(replays: &[Replayed], trace: &[u8]) -> Ending {
+pub(crate) fn ending_of(replays: &[Replayed], trace: &[u8]) -> Ending {
     let status = match replays {
         [first, ..] => first.status,
         [] => Status::OutOfMemory,
