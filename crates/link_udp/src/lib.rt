@@ -1,0 +1,6 @@
+//! Datagrams over the sockets of this machine. What a socket carries is trusted: it is not proved.
+#![tactic(auto)]
+
+mod udp_link;
+
+pub use udp_link::UdpLink;
