@@ -1,5 +1,5 @@
 -- Which move is proposed.
-use Rattle.std.specs.Prelude.{ℕ, ◌≤◌, min, Bool, ◌&&◌, ◌||◌, ◌==◌, not, nat_lt, nat_le, List, [], ◌∷◌, length, filter, find, take, fold, count_by, Option, Some, None, is_some}
+use Rattle.std.specs.Prelude.{ℕ, min, Bool, if◌then◌else◌, ◌&&◌, ◌||◌, ◌==◌, not, nat_lt, nat_le, List, [], ◌∷◌, length, filter, find, take, fold, count_by, Option, Some, None, is_some}
 use Rattle.std.specs.List.{list_any, range_with_len}
 use Rattle.std.specs.Option.{option_and_then}
 use Rattle.tcs_terms.specs.declared.limits.TheConstants.{MAX_WANTED}
@@ -24,7 +24,7 @@ missing_in miss nodes counts config = find (is_missing miss nodes counts config.
 
 -- the configuration of the lowest shard that has such a member
 abbrev pub missing : ℕ → List ℕ → List ℕ → List Membership → Option Membership
-missing miss nodes counts configs = find (λ config. is_some (missing_in miss nodes counts config)) configs
+missing miss nodes counts configs = find (λ (config : Membership). is_some (missing_in miss nodes counts config)) configs
 
 -- whether the first node stands before the second: by count, then by number
 abbrev pub before : List ℕ → ℕ → ℕ → Bool
@@ -32,7 +32,7 @@ before counts m n = nat_lt (count_of counts m) (count_of counts n) || ((count_of
 
 -- the one of these that stands before all others
 abbrev pub first_of : List ℕ → ℕ → List ℕ → ℕ
-first_of counts n ns = fold (λ best m. if before counts m best then m else best) n ns
+first_of counts n ns = fold (λ (best : ℕ) (m : ℕ). if before counts m best then m else best) n ns
 
 -- those of these nodes before which fewer than so many stand, no more than so many, in the order given
 abbrev pub first_ones : List ℕ → ℕ → List ℕ → List ℕ

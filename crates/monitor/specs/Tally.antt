@@ -22,7 +22,7 @@ raised counts n = if has_node counts n then slice_set counts (n - 1) (min (slice
 
 -- the counts after these senders were heard of
 abbrev pub heard : List ℕ → List (ℕ × Outgoing) → List ℕ
-heard counts sent = fold (λ counts letter. cleared counts letter.0) counts sent
+heard counts sent = fold (λ (counts : List ℕ) (letter : ℕ × Outgoing). cleared counts letter.0) counts sent
 
 -- the counts after one message: its receiver owes one more, unless it is the sender or the configuration service
 abbrev pub owes : List ℕ → ℕ × Outgoing → List ℕ
@@ -34,4 +34,4 @@ counted counts sent = fold owes (heard counts sent) sent
 
 -- the counts of a shard's nodes are set back
 abbrev pub shard_cleared : List ℕ → ℕ → List ℕ → List ℕ
-shard_cleared nodes shard counts = fold (λ counts n. if is_node_of nodes shard n then cleared counts n else counts) counts (range_with_len 1 (length nodes))
+shard_cleared nodes shard counts = fold (λ (counts : List ℕ) (n : ℕ). if is_node_of nodes shard n then cleared counts n else counts) counts (range_with_len 1 (length nodes))

@@ -24,7 +24,7 @@ first_watch setup miss = record { setup = setup; miss = miss; counts = replicate
 
 -- a newer configuration takes the place of that of its shard
 abbrev pub renewed : List Membership → Membership → List Membership
-renewed configs new = map (λ old. if (old.shard == new.shard) && nat_lt old.epoch new.epoch then new else old) configs
+renewed configs new = map (λ (old : Membership). if (old.shard == new.shard) && nat_lt old.epoch new.epoch then new else old) configs
 
 -- a message may announce a configuration
 abbrev pub announced : List Membership → Message → List Membership
@@ -50,7 +50,7 @@ announced configs (StatePiece config piece pieces rows) = configs
 abbrev pub after_event : Watch → List (ℕ × Outgoing) → Watch
 after_event w sent = record w {
   counts = counted w.counts sent;
-  configs = fold (λ configs letter. announced configs letter.1.message) w.configs sent;
+  configs = fold (λ (configs : List Membership) (letter : ℕ × Outgoing). announced configs letter.1.message) w.configs sent;
 }
 
 -- the move that is proposed now

@@ -4,8 +4,9 @@ ghost use Rattle.std.specs.List.{list_any, range_with_len};
 ghost use Rattle.tcs_terms.specs.Setups.{is_node_of};
 ghost use Rattle.monitor.specs.Moves.{is_missing, missing_in, missing};
 
+use crate::moves::is_spare;
 use crate::tally::count_of;
-use tcs_terms::{Config, NodeId, ShardId, is_node_of};
+use tcs_terms::{Config, NodeId, ShardId};
 
 /// What a configuration is judged by: at which count a member is missing, the shards of the nodes, and their counts.
 #[derive(Clone, Copy)]
@@ -21,12 +22,13 @@ impl Judge<'_> {
         requires { length self.now.nodes.now ≤ 64 }
         ensures { result ≡ list_any (λ n. is_node_of self.now.nodes.now shard n && not (n == member)) (range_with_len 1 (length self.now.nodes.now)) }
     {
+        let mut found = false;
         for node in 1..self.nodes.len() as u8 + 1 {
-            if node != member && is_node_of(self.nodes, shard, u64::from(node)) {
-                return true;
+            if is_spare(self.nodes, shard, member, node) {
+                found = true;
             }
         }
-        false
+        found
     }
 
     /// Whether a member of a shard's configuration is missing, and the shard has another node.

@@ -1,5 +1,6 @@
 //! The move that is proposed of a configuration.
-ghost use Rattle.std.specs.Prelude.{◌≡◌, ◌≤◌, length, IfOk, count_by};
+ghost use Rattle.std.specs.Prelude.{◌≡◌, ◌≤◌, ◌&&◌, ◌==◌, not, length, IfOk, count_by};
+ghost use Rattle.tcs_terms.specs.Setups.{is_node_of};
 ghost use Rattle.monitor.specs.Moves.{others, before, first_of, first_ones, wanted, move_to};
 
 use crate::tally::count_of;
@@ -15,6 +16,13 @@ pub struct Proposal {
     pub count: u32,
 }
 
+/// Whether a node is one of the shard other than the one that is missed.
+pub(crate) fn is_spare(nodes: &[ShardId], shard: ShardId, missed: NodeId, node: NodeId) -> bool
+    ensures { result ≡ (is_node_of nodes.now shard node && not (node == missed)) }
+{
+    is_node_of(nodes, shard, u64::from(node)) && node != missed
+}
+
 /// The nodes of a shard other than this one.
 pub(crate) fn others(
     alloc: Global,
@@ -27,7 +35,7 @@ pub(crate) fn others(
 {
     let mut list = Vec::new(alloc);
     for node in 1..nodes.len() as u8 + 1 {
-        if is_node_of(nodes, shard, u64::from(node)) && node != missed {
+        if is_spare(nodes, shard, missed, node) {
             list.push(node)?;
         }
     }

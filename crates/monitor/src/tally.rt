@@ -1,6 +1,6 @@
 //! How many messages each node left without any of its own.
-ghost use Rattle.std.specs.Prelude.{◌≡◌, ◌≤◌, length};
-ghost use Rattle.tcs_terms.specs.Setups.{has_node};
+ghost use Rattle.std.specs.Prelude.{◌≡◌, ◌≤◌, if◌then◌else◌, length};
+ghost use Rattle.tcs_terms.specs.Setups.{has_node, is_node_of};
 ghost use Rattle.monitor.specs.Tally.{count_of, cleared, raised, heard, owes, counted, shard_cleared};
 
 use tcs_terms::{NodeId, Outgoing, ShardId, is_node_of};
@@ -74,14 +74,21 @@ pub(crate) fn count(counts: &mut [u32], sent: &[(NodeId, Outgoing)])
     }
 }
 
+/// Sets the count of a node back, where it is one of the shard.
+fn clear_of(nodes: &[ShardId], shard: ShardId, counts: &mut [u32], node: NodeId)
+    ensures { counts.new ≡ (if is_node_of nodes.now shard node then cleared counts.old node else counts.old) }
+{
+    if is_node_of(nodes, shard, u64::from(node)) {
+        clear(counts, node);
+    }
+}
+
 /// Sets the counts of the nodes of a shard back.
 pub(crate) fn clear_shard(nodes: &[ShardId], shard: ShardId, counts: &mut [u32])
     requires { length nodes.now ≤ 64 }
     ensures { counts.new ≡ shard_cleared nodes.now shard counts.old }
 {
     for node in 1..nodes.len() as u8 + 1 {
-        if is_node_of(nodes, shard, u64::from(node)) {
-            clear(counts, node);
-        }
+        clear_of(nodes, shard, counts, node);
     }
 }

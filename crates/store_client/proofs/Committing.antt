@@ -45,7 +45,7 @@ few_writes (p ∷ ps) = go p.put (few_writes ps)
     go (Some value) rest = omega arith
 
 -- no version is above the greatest
-versions_below : (most top : ℕ) (parts : List Part) → fold (λ most p. max most p.version) most parts ≤ top
+versions_below : (most top : ℕ) (parts : List Part) → fold (λ (most : ℕ) (p : Part). max most p.version) most parts ≤ top
   → (most ≤ top) × (list_all (λ (r : ReadPart). nat_lt r.version (top + 1)) (reads parts) ≡ true)
 versions_below most top [] below = (below, refl)
 versions_below most top (p ∷ ps) below =

@@ -1,5 +1,6 @@
 -- A value that is put takes the place of the one before.
-use Rattle.std.proofs.Common.{◌≡◌, ℕ, zero, suc, ◌+◌, ◌<◌, Bool, true, false, cond, List, [], ◌∷◌, length, map, get_or, set, refl, sym, ◌∙◌, ap, arith}
+use Rattle.std.proofs.Common.{◌≡◌, ℕ, zero, suc, ◌+◌, ◌<◌, Bool, true, false, cond, List, [], ◌∷◌, length, map, get_or, refl, sym, ◌∙◌, ap, arith}
+use Rattle.std.proofs.Math.ListN.{set}
 use Rattle.std.specs.Prelude.{Option, Some, None}
 use Rattle.std.specs.List.{position, position_or_len}
 use Rattle.std.proofs.lemmas.List.Quantifiers.{position-Some}
@@ -20,12 +21,12 @@ set_is_with_put name value parts i d new is found =
     let h = position-Some (λ (p : Part). same_name p.name name) parts i d found in
     set_first name value parts i d new is h.0 h.1 h.2
 
-pub names-with_put : (name value : List ℕ) (parts : List Part) → map (λ p. p.name) (with_put name value parts) ≡ map (λ (p : Part). p.name) parts
+pub names-with_put : (name value : List ℕ) (parts : List Part) → map (λ (p : Part). p.name) (with_put name value parts) ≡ map (λ (p : Part). p.name) parts
 names-with_put name value [] = refl
 names-with_put name value (p ∷ ps) = go (same_name p.name name) refl (names-with_put name value ps)
   where
-    go : (b : Bool) → same_name p.name name ≡ b → map (λ p. p.name) (with_put name value ps) ≡ map (λ (p : Part). p.name) ps
-      → map (λ p. p.name) (cond (same_name p.name name) (record p { put = Some value } ∷ ps) (p ∷ with_put name value ps)) ≡ map (λ (p : Part). p.name) (p ∷ ps)
+    go : (b : Bool) → same_name p.name name ≡ b → map (λ (p : Part). p.name) (with_put name value ps) ≡ map (λ (p : Part). p.name) ps
+      → map (λ (p : Part). p.name) (cond (same_name p.name name) (record p { put = Some value } ∷ ps) (p ∷ with_put name value ps)) ≡ map (λ (p : Part). p.name) (p ∷ ps)
     go true is rest = rw is refl
     go false is rest = rw is (ap (λ (ns : List (List ℕ)). p.name ∷ ns) rest)
 

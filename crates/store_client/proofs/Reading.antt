@@ -11,7 +11,7 @@ use Rattle.store_client.specs.Parts.{with_read}
 use Rattle.store_client.proofs.Names.{otherwise_after}
 
 abbrev named : List Part → List ℕ → Bool
-named parts name = list_any (λ p. same_name p.name name) parts
+named parts name = list_any (λ (p : Part). same_name p.name name) parts
 
 none_before_the_end : (name : List ℕ) (parts : List Part) → length parts ≤ position_or_len (λ (p : Part). same_name p.name name) parts → named parts name ≡ false
 none_before_the_end name [] past = refl
@@ -43,29 +43,29 @@ inserted new (p ∷ ps) = go (name_before p.name new.name) refl (inserted new ps
     go false is rest = rw is refl
 
 -- behind a name that stands before the new one
-ascends_after : (x : List ℕ) (new : Part) (parts : List Part) → names_ascend (x ∷ map (λ p. p.name) parts) ≡ true → name_before x new.name ≡ true → named parts new.name ≡ false
-  → names_ascend (x ∷ map (λ p. p.name) (with_read new parts)) ≡ true
+ascends_after : (x : List ℕ) (new : Part) (parts : List Part) → names_ascend (x ∷ map (λ (p : Part). p.name) parts) ≡ true → name_before x new.name ≡ true → named parts new.name ≡ false
+  → names_ascend (x ∷ map (λ (p : Part). p.name) (with_read new parts)) ≡ true
 ascends_after x new [] ascend first other = both (name_before x new.name) true first refl
 ascends_after x new (p ∷ ps) ascend first other =
     go (name_before p.name new.name) refl
   where
-    rest : names_ascend (p.name ∷ map (λ p. p.name) ps) ≡ true
-    rest = right_of (name_before x p.name) (names_ascend (p.name ∷ map (λ p. p.name) ps)) ascend
-    go : (b : Bool) → name_before p.name new.name ≡ b → names_ascend (x ∷ map (λ p. p.name) (cond (name_before p.name new.name) (p ∷ with_read new ps) (new ∷ p ∷ ps))) ≡ true
-    go true is = rw is (both (name_before x p.name) (names_ascend (p.name ∷ map (λ p. p.name) (with_read new ps)))
-        (left_of (name_before x p.name) (names_ascend (p.name ∷ map (λ p. p.name) ps)) ascend)
+    rest : names_ascend (p.name ∷ map (λ (p : Part). p.name) ps) ≡ true
+    rest = right_of (name_before x p.name) (names_ascend (p.name ∷ map (λ (p : Part). p.name) ps)) ascend
+    go : (b : Bool) → name_before p.name new.name ≡ b → names_ascend (x ∷ map (λ (p : Part). p.name) (cond (name_before p.name new.name) (p ∷ with_read new ps) (new ∷ p ∷ ps))) ≡ true
+    go true is = rw is (both (name_before x p.name) (names_ascend (p.name ∷ map (λ (p : Part). p.name) (with_read new ps)))
+        (left_of (name_before x p.name) (names_ascend (p.name ∷ map (λ (p : Part). p.name) ps)) ascend)
         (ascends_after p.name new ps rest is (neither_right (same_name p.name new.name) (named ps new.name) other)))
-    go false is = rw is (both (name_before x new.name) (names_ascend (new.name ∷ p.name ∷ map (λ p. p.name) ps)) first
-        (both (name_before new.name p.name) (names_ascend (p.name ∷ map (λ p. p.name) ps))
+    go false is = rw is (both (name_before x new.name) (names_ascend (new.name ∷ p.name ∷ map (λ (p : Part). p.name) ps)) first
+        (both (name_before new.name p.name) (names_ascend (p.name ∷ map (λ (p : Part). p.name) ps))
         (otherwise_after p.name new.name is (neither_left (same_name p.name new.name) (named ps new.name) other)) rest))
 
-pub with_read_ascends : (new : Part) (parts : List Part) → names_ascend (map (λ p. p.name) parts) ≡ true → named parts new.name ≡ false → names_ascend (map (λ p. p.name) (with_read new parts)) ≡ true
+pub with_read_ascends : (new : Part) (parts : List Part) → names_ascend (map (λ (p : Part). p.name) parts) ≡ true → named parts new.name ≡ false → names_ascend (map (λ (p : Part). p.name) (with_read new parts)) ≡ true
 with_read_ascends new [] ascend other = refl
 with_read_ascends new (p ∷ ps) ascend other = go (name_before p.name new.name) refl
   where
-    go : (b : Bool) → name_before p.name new.name ≡ b → names_ascend (map (λ p. p.name) (cond (name_before p.name new.name) (p ∷ with_read new ps) (new ∷ p ∷ ps))) ≡ true
+    go : (b : Bool) → name_before p.name new.name ≡ b → names_ascend (map (λ (p : Part). p.name) (cond (name_before p.name new.name) (p ∷ with_read new ps) (new ∷ p ∷ ps))) ≡ true
     go true is = rw is (ascends_after p.name new ps ascend is (neither_right (same_name p.name new.name) (named ps new.name) other))
-    go false is = rw is (both (name_before new.name p.name) (names_ascend (p.name ∷ map (λ p. p.name) ps))
+    go false is = rw is (both (name_before new.name p.name) (names_ascend (p.name ∷ map (λ (p : Part). p.name) ps))
         (otherwise_after p.name new.name is (neither_left (same_name p.name new.name) (named ps new.name) other)) ascend)
 
 pub length-with_read : (new : Part) (parts : List Part) → length (with_read new parts) ≡ length parts + 1

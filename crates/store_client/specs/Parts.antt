@@ -10,7 +10,7 @@ use Rattle.store_client.specs.declared.parts.Part.{Part}
 
 -- whether an object was read
 abbrev pub has : List Part → List ℕ → Bool
-has parts name = is_some (position (λ p. same_name p.name name) parts)
+has parts name = is_some (position (λ (p : Part). same_name p.name name) parts)
 
 -- a part more, before the first one whose name stands after its own
 abbrev pub with_read : Part → List Part → List Part
@@ -24,7 +24,7 @@ with_put name value (p ∷ ps) = if same_name p.name name then record p { put = 
 
 -- what was read
 abbrev pub reads : List Part → List ReadPart
-reads parts = map (λ p. record { name = p.name; version = p.version }) parts
+reads parts = map (λ (p : Part). record { name = p.name; version = p.version }) parts
 
 -- what an object is to get, behind the writes of earlier ones
 abbrev pub write_of : List ℕ → Option (List ℕ) → List WritePart → List WritePart
@@ -38,7 +38,7 @@ writes (p ∷ ps) = write_of p.name p.put (writes ps)
 
 -- the greatest version that was read, 0 where nothing was
 abbrev pub greatest : List Part → ℕ
-greatest parts = fold (λ most p. max most p.version) 0 parts
+greatest parts = fold (λ (most : ℕ) (p : Part). max most p.version) 0 parts
 
 -- the payload: its version is 1 above the greatest that was read
 abbrev pub payload_of : List Part → Accesses
@@ -46,5 +46,5 @@ payload_of parts = record { reads = reads parts; ranges = []; writes = writes pa
 
 -- names ascend, and there are no more than a payload may read
 pub record AreParts (parts : List Part) : Type 0 where
-  pub ascend : IsTrue (names_ascend (map (λ p. p.name) parts))
+  pub ascend : IsTrue (names_ascend (map (λ (p : Part). p.name) parts))
   pub few : length parts ≤ MAX_READS
