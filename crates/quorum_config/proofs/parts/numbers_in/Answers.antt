@@ -1,0 +1,34 @@
+use Rattle.std.proofs.Common.{◌∷◌, length, Some, sym, ap, ◌∙◌, arith}
+use Rattle.std.proofs.lemmas.List.{length-append}
+use Rattle.tcs_terms.specs.Words.{words_of}
+use Rattle.quorum_config.specs.Readings.{each_number}
+use Rattle.trace_text.proofs.Cuts.{cut_takes}
+use Rattle.quorum_config.proofs.NumberLists.{before, before_none, one_more, last_one, none_of_two, none_of_one}
+use Rattle.quorum_config.proofs.parts.numbers_in.Goals as goal
+
+pub words-init : goal.words-init
+words-init c = sym (rw c.new-numbers.ensures.items (before_none (each_number (words_of c.args.text.now))))
+
+pub words-preserved : goal.words-preserved
+words-preserved c =
+    c.words.invariant ∙ one_more c.words.left.now (c.in-Some.word.now, c.in-Some.more.now) c.in-Some-read_number.number c.words.numbers.items (sym c.in-Some.ensures) (sym c.in-Some-read_number.ensures)
+    ∙ ap (λ ns. before ns (each_number (words_of c.in-Some.more.now))) (sym c.in_ok-push-in-Some.ensures.items)
+
+pub words-smaller : goal.words-smaller
+words-smaller c =
+    let cutting = cut_takes 32 c.words.left.now (c.in-Some.word.now, c.in-Some.more.now) (sym c.in-Some.ensures) in
+    let size = ap length cutting.whole in
+    omega (arith, size, length-append c.in-Some.word.now (32 ∷ c.in-Some.more.now))
+
+pub returns-in_default : goal.returns-in_default
+returns-in_default c =
+    sym (c.words.invariant ∙ none_of_two c.words.left.now (c.in-Some.word.now, c.in-Some.more.now) c.words.numbers.items (sym c.in-Some.ensures) (sym c.in_default.ensures))
+
+pub returns-in_default-read_number : goal.returns-in_default-read_number
+returns-in_default-read_number c =
+    sym (c.words.invariant ∙ none_of_one c.words.left.now c.words.numbers.items (sym c.in-None.ensures) (sym c.in_default-read_number.ensures))
+
+pub returns-in-None : goal.returns-in-None
+returns-in-None c =
+    ap Some c.in_ok-push-in-None.ensures.items
+    ∙ sym (c.words.invariant ∙ last_one c.words.left.now c.in-Some-read_number-2.number c.words.numbers.items (sym c.in-None.ensures) (sym c.in-Some-read_number-2.ensures))

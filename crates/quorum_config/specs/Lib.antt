@@ -1,0 +1,5 @@
+pub mod Stages
+pub mod Texts
+pub mod Readings
+pub mod Engine
+pub mod Standing
