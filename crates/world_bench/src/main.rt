@@ -2,6 +2,7 @@
 //! to standard output; the time of the steps so far, at 100,000 and at 1,000,000 events, to standard error.
 #![tactic(auto)]
 
+mod misfits;
 mod script;
 mod steps;
 

@@ -1,6 +1,6 @@
 //! A schedule, read from a source.
 
-use crate::steps::Misfit;
+use crate::misfits::Misfit;
 use anyhow::Error;
 use schedule_text::{Got, LineItem, LineReader, Lines};
 use std::alloc::Global;

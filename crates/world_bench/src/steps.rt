@@ -1,22 +1,13 @@
 //! The steps of a run.
 
+use crate::misfits::Misfit;
 use anyhow::Error;
 use tcs_laws::VoteGuard;
 use tcs_terms::Event;
-use thiserror::Error as ErrorOf;
 use world::World;
 
 /// The events of a run are at most this many.
 const EVENTS: u32 = 1_000_000;
-
-/// Why a schedule is not stepped.
-#[derive(Clone, Copy, Debug, ErrorOf)]
-pub enum Misfit {
-    #[error("a header without an end")]
-    Header,
-    #[error("an event that does not fit")]
-    Event,
-}
 
 /// Steps all events.
 pub fn step_all<G: VoteGuard>(world: &mut World<G>, events: Vec<Event>) -> Result<(), Error> {
