@@ -1,4 +1,0 @@
-pub mod Stops
-pub mod Texts
-pub mod Told
-pub mod Audits
