@@ -46,7 +46,7 @@ first_difference (t ∷ ts) (u ∷ us) = if same_txn t u then first_difference t
 -- a verdict with one clause more, which is tried last
 abbrev pub and_last : Verdict → Option TxId → Verdict
 and_last (Correct decided committed aborted) fails = unless_fails clauses.Order fails (Correct decided committed aborted)
-and_last (Incorrect clause txn) fails = Incorrect clause txn
+and_last (Incorrect which txn) fails = Incorrect which txn
 
 -- the verdict on what is told: that on the history, and then whether the told order is that of its first commits
 abbrev pub verdict_told : Told → Verdict

@@ -1,13 +1,15 @@
 -- The first of each transaction, with one note more.
-use Rattle.std.proofs.Common.{◌≡◌, ℕ, ◌+◌, ◌<◌, ◌≤◌, Bool, true, false, not, ◌||◌, cond, List, [], ◌∷◌, ◌++◌, length, refl, sym, ap, ◌∙◌, subst, filter, filter_map, inl, inr, append-nil, arith}
+use Rattle.std.proofs.Common.{◌≡◌, ℕ, ◌+◌, ◌<◌, ◌≤◌, Bool, true, false, not, ◌||◌, cond, List, [], ◌∷◌, ◌++◌, length, take, get_or, refl, sym, ap, ◌∙◌, subst, filter, filter_map, inl, inr, append-nil, arith}
 use Rattle.std.specs.Prelude.{Option, Some, None}
-use Rattle.std.specs.List.{list_any}
+use Rattle.std.specs.List.{list_any, cons_option}
 use Rattle.std.proofs.lemmas.Bool.{cond_both, cond-true, cond-false, cases_Bool}
 use Rattle.std.proofs.lemmas.List.Elements.{filter-append, filter_map-append}
 use Rattle.tcs_terms.specs.declared.ids.TxId.{TxId}
 use Rattle.tcs_terms.specs.declared.inputs.Note.{Note}
 use Rattle.tcs_terms.specs.Logs.{same_txn}
 use Rattle.protocol.specs.History.{first_of_each}
+use Rattle.judge.specs.Watching.{put_next}
+use Rattle.judge.proofs.Failing.{front_at}
 use Rattle.protocol_laws.proofs.SameTxn.{same_txn-eq, same_txn-self}
 
 -- with a transaction put last, unless it is there
@@ -59,8 +61,8 @@ first_of_each-last (t ∷ ts) u =
         → t ∷ filter (λ v. not (same_txn t v)) (put_last (first_of_each ts) u)
         ≡ cond (list_any (same_txn u) (first_of_each ts)) (t ∷ filter (λ v. not (same_txn t v)) (first_of_each ts)) (t ∷ filter (λ v. not (same_txn t v)) (first_of_each ts) ++ u ∷ [])
     stays t ts u apart = elim (cases_Bool (list_any (same_txn u) (first_of_each ts))) [
-      | inl there ↦ rw (there, there) refl
-      | inr new ↦ rw (new, new) (ap (λ vs. t ∷ vs) (filter-append (λ v. not (same_txn t v)) (first_of_each ts) (u ∷ [])
+      | inl there ↦ rw there refl
+      | inr new ↦ rw new (ap (λ vs. t ∷ vs) (filter-append (λ v. not (same_txn t v)) (first_of_each ts) (u ∷ [])
           ∙ ap (λ vs. filter (λ v. not (same_txn t v)) (first_of_each ts) ++ vs) (cond-true (not (same_txn t u)) (u ∷ []) [] (ap not apart))))
     ]
 
@@ -68,20 +70,17 @@ first_of_each-last (t ∷ ts) u =
 abbrev pub firsts : (Note → Option TxId) → List Note → List TxId
 firsts pick h = first_of_each (filter_map pick h)
 
-pub firsts_with : (pick : Note → Option TxId) (h : List Note) (n : Note) (t : TxId) → pick n ≡ Some t
-    → firsts pick (h ++ n ∷ []) ≡ put_last (firsts pick h) t
-firsts_with pick h n t is =
-    ap first_of_each (filter_map-append pick h (n ∷ []) ∙ ap (λ ts. filter_map pick h ++ ts) (one is)) ∙ first_of_each-last (filter_map pick h) t
+-- one note more puts its transaction last
+pub firsts_next : (pick : Note → Option TxId) (h : List Note) (i : ℕ) (n : Note) → i < length h → n ≡ get_or h i n
+    → firsts pick (take (i + 1) h) ≡ put_next (firsts pick (take i h)) (pick n)
+firsts_next pick h i n within is =
+    ap (firsts pick) (front_at h i n within is)
+    ∙ ap first_of_each (filter_map-append pick (take i h) (n ∷ []))
+    ∙ go (filter_map pick (take i h)) (pick n)
   where
-    one : pick n ≡ Some t → filter_map pick (n ∷ []) ≡ t ∷ []
-    one e = rw e refl
-
-pub firsts_without : (pick : Note → Option TxId) (h : List Note) (n : Note) → pick n ≡ None → firsts pick (h ++ n ∷ []) ≡ firsts pick h
-firsts_without pick h n is =
-    ap first_of_each (filter_map-append pick h (n ∷ []) ∙ ap (λ ts. filter_map pick h ++ ts) (none is) ∙ append-nil (filter_map pick h))
-  where
-    none : pick n ≡ None → filter_map pick (n ∷ []) ≡ []
-    none e = rw e refl
+    go : (ts : List TxId) (o : Option TxId) → first_of_each (ts ++ cons_option o []) ≡ put_next (first_of_each ts) o
+    go ts None = ap first_of_each (append-nil ts)
+    go ts (Some t) = first_of_each-last ts t
 
 -- there are no more of them than notes
 few_filtered : (p : TxId → Bool) (ts : List TxId) → length (filter p ts) ≤ length ts
@@ -96,13 +95,16 @@ few_firsts (t ∷ ts) =
     let fewer = few_filtered (λ u. not (same_txn t u)) (first_of_each ts) in
     omega arith
 
+one_more : (o : Option TxId) (ts : List TxId) → length (cons_option o ts) ≤ length ts + 1
+one_more None ts = omega arith
+one_more (Some t) ts = omega arith
+
 few_picked : (pick : Note → Option TxId) (h : List Note) → length (filter_map pick h) ≤ length h
 few_picked pick [] = omega arith
-few_picked pick (n ∷ ns) = go (pick n) refl
-  where
-    go : (o : Option TxId) → pick n ≡ o → length (filter_map pick (n ∷ ns)) ≤ length (n ∷ ns)
-    go None e = let rest = few_picked pick ns in rw e (omega arith)
-    go (Some t) e = let rest = few_picked pick ns in rw e (omega arith)
+few_picked pick (n ∷ ns) =
+    let rest = few_picked pick ns in
+    let more = one_more (pick n) (filter_map pick ns) in
+    omega arith
 
 pub firsts_few : (pick : Note → Option TxId) (h : List Note) → length (firsts pick h) ≤ length h
 firsts_few pick h = let first = few_firsts (filter_map pick h) in let picked = few_picked pick h in omega arith

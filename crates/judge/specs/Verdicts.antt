@@ -1,5 +1,5 @@
 -- The verdict on a history: correct, with what was decided, or the first clause that fails, and where it first fails.
-use Rattle.std.specs.Prelude.{ℕ, not, List, Option, Some, None, find, filter_map, length, ⊤, ⊥}
+use Rattle.std.specs.Prelude.{ℕ, Bool, not, List, Option, Some, None, find, filter_map, length, ⊤}
 use Rattle.tcs_terms.specs.declared.ids.TxId.{TxId}
 use Rattle.tcs_terms.specs.declared.inputs.Note.{Note}
 use Rattle.tcs_terms.specs.declared.inputs.Note.TheVariants.{Begin, Take, ReadValue, Decide}
@@ -70,8 +70,8 @@ first_illegal tests h =
 
 -- the verdict with one clause more, which is tried first
 abbrev pub unless_fails : Clause → Option TxId → Verdict → Verdict
-unless_fails clause None later = later
-unless_fails clause (Some txn) later = Incorrect clause txn
+unless_fails which None later = later
+unless_fails which (Some txn) later = Incorrect which txn
 
 -- how many transactions were decided, how many of them to commit, and how many to abort
 abbrev pub counted : List Note → Verdict
@@ -95,4 +95,4 @@ verdict_on tests n h = unless_fails Agreement (first_decision agrees_after h) (f
 -- whether a verdict is that the history is correct
 abbrev pub SaysCorrect : Verdict → Type 0
 SaysCorrect (Correct decided committed aborted) = ⊤
-SaysCorrect (Incorrect clause txn) = ⊥
+SaysCorrect (Incorrect which txn) = ⊥

@@ -25,6 +25,11 @@ with_first kept txn value = if is_some (lookup (same_txn txn) kept) then kept el
 abbrev pub with_txn : List TxId → TxId → List TxId
 with_txn kept txn = if list_any (same_txn txn) kept then kept else kept ++ txn ∷ []
 
+-- with a transaction, if there is one
+abbrev pub put_next : List TxId → Option TxId → List TxId
+put_next kept None = kept
+put_next kept (Some txn) = with_txn kept txn
+
 -- the payloads of the transactions that have begun, with one note more
 abbrev pub payloads_with : List (TxId × Accesses) → Note → List (TxId × Accesses)
 payloads_with payloads (Begin txn payload) = with_first payloads txn payload

@@ -1,7 +1,8 @@
 //! Transactions in the order of their first decisions.
-ghost use Rattle.std.specs.Prelude.{◌≡◌, ◌<◌, ◌≤◌, ◌^◌, length, filter_map, IfOk};
+ghost use Rattle.std.specs.Prelude.{◌≡◌, ◌<◌, ◌≤◌, ◌^◌, length, filter_map, IfOk, OnOk};
 ghost use Rattle.protocol.specs.History.{commit_in, first_of_each, order_of};
 ghost use Rattle.judge.specs.Verdicts.{abort_in, decided_in, counted};
+ghost use Rattle.judge.specs.Watching.{put_next};
 
 use crate::verdicts::Verdict;
 use crate::watch::decided_in;
@@ -35,49 +36,64 @@ fn abort_in(note: &Note) -> Option<TxId>
     }
 }
 
-/// The committed transactions, in the order of their first decisions.
-pub fn order_of(alloc: Global, history: &[Note]) -> Result<IndexSet<TxId>, OutOfMemory>
-    ensures { IfOk result (λ order. order.keys ≡ order_of history.now) }
+/// Puts a transaction last, if there is one, unless it is there.
+fn put_next(txns: &mut IndexSet<TxId>, txn: Option<TxId>) -> Result<(), OutOfMemory>
+    ensures { OnOk result (txns.new.keys ≡ put_next txns.old.keys txn) }
 {
-    let mut order = IndexSet::new(alloc);
-    for note in history {
-        if let Some(txn) = commit_in(note) {
-            order.insert(txn)?;
+    match txn {
+        None => Ok(()),
+        Some(txn) => {
+            txns.insert(txn)?;
+            Ok(())
         }
     }
-    Ok(order)
+}
+
+/// The committed transactions, in the order of their first decisions.
+pub fn order_of(alloc: Global, history: &[Note]) -> Result<IndexSet<TxId>, OutOfMemory>
+    ensures order { IfOk result (λ order. order.keys ≡ order_of history.now) }
+    ensures few { IfOk result (λ order. length order.keys ≤ length history.now) }
+{
+    let mut txns = IndexSet::new(alloc);
+    for note in history {
+        put_next(&mut txns, commit_in(note))?;
+    }
+    Ok(txns)
 }
 
 /// The transactions that were decided, each once.
 fn decided_of(alloc: Global, history: &[Note]) -> Result<IndexSet<TxId>, OutOfMemory>
-    ensures { IfOk result (λ txns. txns.keys ≡ first_of_each (filter_map decided_in history.now)) }
+    ensures txns { IfOk result (λ txns. txns.keys ≡ first_of_each (filter_map decided_in history.now)) }
+    ensures few { IfOk result (λ txns. length txns.keys ≤ length history.now) }
 {
     let mut txns = IndexSet::new(alloc);
     for note in history {
-        if let Some(txn) = decided_in(note) {
-            txns.insert(txn)?;
-        }
+        put_next(&mut txns, decided_in(note))?;
     }
     Ok(txns)
 }
 
 /// The transactions that were aborted, each once.
 fn aborted_of(alloc: Global, history: &[Note]) -> Result<IndexSet<TxId>, OutOfMemory>
-    ensures { IfOk result (λ txns. txns.keys ≡ first_of_each (filter_map abort_in history.now)) }
+    ensures txns { IfOk result (λ txns. txns.keys ≡ first_of_each (filter_map abort_in history.now)) }
+    ensures few { IfOk result (λ txns. length txns.keys ≤ length history.now) }
 {
     let mut txns = IndexSet::new(alloc);
     for note in history {
-        if let Some(txn) = abort_in(note) {
-            txns.insert(txn)?;
-        }
+        put_next(&mut txns, abort_in(note))?;
     }
     Ok(txns)
 }
 
 /// The verdict that all is right, with the numbers of transactions. `order` has those that were committed.
-pub fn counted(alloc: Global, history: &[Note], order: &[TxId]) -> Result<Verdict, OutOfMemory>
-    requires few { length history.now < 2 ^ 32 }
-    requires order { order.now ≡ order_of history.now }
+pub fn counted(
+    alloc: Global,
+    history: &[Note],
+    order: &IndexSet<TxId>,
+) -> Result<Verdict, OutOfMemory>
+    requires short { length history.now < 2 ^ 32 }
+    requires order { order.now.keys ≡ order_of history.now }
+    requires few { length order.now.keys ≤ length history.now }
     ensures { IfOk result (λ verdict. verdict ≡ counted history.now) }
 {
     let decided = decided_of(alloc, history)?;

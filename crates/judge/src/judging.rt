@@ -16,6 +16,7 @@ use crate::watch::first_decision;
 use cert_commute::Commute;
 use cert_serial::Serial;
 use cert_snapshot::Snapshot;
+use indexmap::IndexSet;
 use std::alloc::Global;
 use tcs_laws::{BySight, Certifier};
 use tcs_terms::{Note, OutOfMemory, Rule, TxId};
@@ -87,7 +88,7 @@ fn judge_legality<C: BySight>(
     let illegal = first_illegal::<C>(alloc, history, order.as_slice())?;
     match illegal {
         Some(txn) => Ok(incorrect(Clause::Legality, txn)),
-        None => judge_clashes::<C>(alloc, history, order.as_slice(), shards),
+        None => judge_clashes::<C>(alloc, history, &order, shards),
     }
 }
 
@@ -95,13 +96,14 @@ fn judge_legality<C: BySight>(
 fn judge_clashes<C: Certifier>(
     alloc: Global,
     history: &[Note],
-    order: &[TxId],
+    order: &IndexSet<TxId>,
     shards: u8,
 ) -> Result<Verdict, OutOfMemory>
     requires some { 1 ≤ shards }
     requires few { shards ≤ MAX_SHARDS }
     requires short { length history.now < 2 ^ 32 }
-    requires order { order.now ≡ order_of history.now }
+    requires order { order.now.keys ≡ order_of history.now }
+    requires listed { length order.now.keys ≤ length history.now }
     ensures { IfOk result (λ verdict. verdict ≡ from_clash C.tests shards history.now) }
 {
     let false_clash = first_decision::<Begun<C>>(alloc, history, shards)?;
@@ -115,13 +117,14 @@ fn judge_clashes<C: Certifier>(
 fn judge_losses(
     alloc: Global,
     history: &[Note],
-    order: &[TxId],
+    order: &IndexSet<TxId>,
     shards: u8,
 ) -> Result<Verdict, OutOfMemory>
     requires some { 1 ≤ shards }
     requires few { shards ≤ MAX_SHARDS }
     requires short { length history.now < 2 ^ 32 }
-    requires order { order.now ≡ order_of history.now }
+    requires order { order.now.keys ≡ order_of history.now }
+    requires listed { length order.now.keys ≤ length history.now }
     ensures { IfOk result (λ verdict. verdict ≡ from_lost history.now) }
 {
     let false_loss = first_decision::<TakeOvers>(alloc, history, shards)?;

@@ -13,5 +13,6 @@ mod payloads;
 mod verdicts;
 mod watch;
 
+pub use counts::order_of;
 pub use judging::judge;
 pub use verdicts::{Clause, Verdict};
