@@ -37,7 +37,9 @@ fn a_leader_goes_on_with_its_rows(rt: HostRuntime) -> Result<(), Fail> {
 }
 
 /// Prepares transaction 1.`seq`, and gives its slot and vote.
-fn vote(alloc: Global, leader: &mut SerialLeader, seq: u32) -> Result<(u16, Vote), Fail> {
+fn vote(alloc: Global, leader: &mut SerialLeader, seq: u32) -> Result<(u16, Vote), Fail>
+    ensures { IfOk result (λ _. leader.new.config ≡ leader.old.config) }
+{
     let part = payload(alloc)?;
     let shards = ShardSet::build([1u8].to_vec(alloc)?)?;
     let entry = leader.prepare(alloc, txn(seq), shards, Some(part))?;
