@@ -1,10 +1,12 @@
 //! A follower from its first epoch to the next one, with another leader's rows.
-ghost use Rattle.std.specs.Prelude.{◌≡◌, IfOk};
+ghost use Rattle.std.specs.Prelude.{◌≡◌, IfOk, IsTrue};
+ghost use Rattle.tcs_terms.specs.Messages.{is_slot};
 
 use crate::{Follower, first_follower, follow};
 use cert_log::CertLog;
 use cert_serial::Serial;
 use std::alloc::Global;
+use std::process::Abort;
 use std::test::Fail;
 use tcs_laws::ScanGuard;
 use tcs_terms::{Config, Entry, Epoch, Mark, Row, ShardSet, Slot, TxId, Vote};
@@ -16,11 +18,8 @@ type SerialFollower = Follower<ScanGuard<Serial>>;
 fn a_follower_takes_its_leaders_rows(rt: HostRuntime) -> Result<(), Fail> {
     let alloc = rt.alloc();
     let mut follower: SerialFollower = first_follower(alloc, config(alloc, 1)?);
-    for slot in [2, 1] {
-        let entry = entry(alloc, slot)?;
-        assert!(rt; !follower.log().is_taken(&entry));
-        follower.accept(entry)?;
-    }
+    accept(&rt, alloc, &mut follower, 2)?;
+    accept(&rt, alloc, &mut follower, 1)?;
     follower.mark(2, true);
     assert!(rt; matches!(follower.log().at(2), Some(row) if row.mark == Mark::Committed));
     assert_eq!(rt; follower.log().rows().len(), 2);
@@ -35,6 +34,22 @@ fn a_follower_takes_its_leaders_rows(rt: HostRuntime) -> Result<(), Fail> {
     let follower = follow(fenced, config(alloc, 3)?, log);
     assert_eq!(rt; follower.config().epoch(), 3);
     assert!(rt; follower.log().has_at(4, txn(4)) && follower.log().rows().len() == 1);
+    Ok(())
+}
+
+/// The follower accepts the entry of a slot that nothing takes yet.
+fn accept(
+    rt: &impl Abort,
+    alloc: Global,
+    follower: &mut SerialFollower,
+    slot: Slot,
+) -> Result<(), Fail>
+    requires { IsTrue (is_slot slot) }
+    ensures { IfOk result (λ _. follower.new.config ≡ follower.old.config) }
+{
+    let entry = entry(alloc, slot)?;
+    assert!(rt; !follower.log().is_taken(&entry));
+    follower.accept(entry)?;
     Ok(())
 }
 

@@ -5,35 +5,40 @@ use std::test::Fail;
 use tcs_io::{MemSink, MemSource, StdSink, write_all};
 use tcs_terms::Reason;
 
-/// Each status, its exit number, and its text.
-const STATUSES: [(Status, u8, &str); 17] = [
+/// Each status but a bad line, its exit number, and its text.
+const STATUSES: [(Status, u8, &str); 6] = [
     (Status::Ok, 0, "ok"),
     (Status::BadWords, 2, "bad words"),
-    (bad(11, Reason::Extra), 3, "bad line 11: extra"),
-    (bad(10, Reason::Missing), 3, "bad line 10: missing"),
-    (bad(7, Reason::Long), 3, "bad line 7: long"),
-    (bad(7, Reason::Many), 3, "bad line 7: many"),
-    (bad(1, Reason::Word), 3, "bad line 1: word"),
-    (bad(2, Reason::Number), 3, "bad line 2: number"),
-    (bad(7, Reason::Range), 3, "bad line 7: range"),
-    (bad(5, Reason::Order), 3, "bad line 5: order"),
-    (bad(8, Reason::Version), 3, "bad line 8: version"),
-    (bad(7, Reason::Unread), 3, "bad line 7: unread"),
-    (bad(u32::MAX, Reason::Word), 3, "bad line 4294967295: word"),
     (Status::ReadFault, 4, "read fault"),
     (Status::WriteFault, 5, "write fault"),
     (Status::OutOfMemory, 6, "out of memory"),
     (Status::Full(268_435_457), 7, "full: 268435457 bytes"),
 ];
 
-const fn bad(line: u32, reason: Reason) -> Status {
-    Status::Bad { line, reason }
-}
+/// Bad lines, for each reason, and their texts.
+const BAD_LINES: [(u32, Reason, &str); 11] = [
+    (11, Reason::Extra, "bad line 11: extra"),
+    (10, Reason::Missing, "bad line 10: missing"),
+    (7, Reason::Long, "bad line 7: long"),
+    (7, Reason::Many, "bad line 7: many"),
+    (1, Reason::Word, "bad line 1: word"),
+    (2, Reason::Number, "bad line 2: number"),
+    (7, Reason::Range, "bad line 7: range"),
+    (5, Reason::Order, "bad line 5: order"),
+    (8, Reason::Version, "bad line 8: version"),
+    (7, Reason::Unread, "bad line 7: unread"),
+    (4_294_967_295, Reason::Word, "bad line 4294967295: word"),
+];
 
 #[test]
 fn each_status_has_its_number_and_text(rt: HostRuntime) -> Result<(), Fail> {
     for (status, code, text) in STATUSES {
         assert_eq!(rt; status.code(), code, "{text}");
+        assert_eq!(rt; format!(in rt.alloc(); "{status}")?.as_str(), text);
+    }
+    for (line, reason, text) in BAD_LINES {
+        let status = Status::Bad { line, reason };
+        assert_eq!(rt; status.code(), 3, "{text}");
         assert_eq!(rt; format!(in rt.alloc(); "{status}")?.as_str(), text);
     }
     Ok(())

@@ -14,6 +14,9 @@ returns-in-None-clause-bad g c = λ named bytes before told holds quiet_input qu
 pub returns-in-None-clause-full : goal.returns-in-None-clause-full
 returns-in-None-clause-full g c = λ named bytes before told holds quiet_input quiet_output sum is full. absurd (c.in-None.ensures Replay named)
 
+pub returns-in-Ok-clause-headline : goal.returns-in-Ok-clause-headline
+returns-in-Ok-clause-headline g c = λ named bytes before told holds ok. c.in-Ok.ensures.whole bytes before told holds
+
 pub returns-in-Ok-clause-bad : goal.returns-in-Ok-clause-bad
 returns-in-Ok-clause-bad g c = λ named bytes before told holds quiet_input quiet_output line reason is bad within.
     absurd (c.in-Ok.ensures.bad bytes before told holds quiet_input quiet_output line reason is bad within)
