@@ -5,10 +5,8 @@ use super::*;
 use std::alloc::Global;
 use std::process::Abort;
 use std::test::Fail;
-use tcs_terms::{
-    Cause, Config, Decision, Handled, Message, NodeId, Note, Outgoing, ShardId, ShardSet, TxId,
-    read_payload,
-};
+use tcs_terms::{Cause, Config, Decision, Handled, Message, NodeId, Note, Outgoing, ShardId, ShardSet, TxId};
+use text_words::read_payload;
 use wire_frame::{decode, encode};
 
 /// A first configuration of a shard.

@@ -9,9 +9,8 @@ use std::alloc::Global;
 use std::process::Abort;
 use std::test::Fail;
 use tcs_laws::ScanGuard;
-use tcs_terms::{
-    Config, Decision, Handled, Input, Name, NodeId, Note, Outgoing, TxId, Version, read_payload,
-};
+use tcs_terms::{Config, Decision, Handled, Input, Name, NodeId, Note, Outgoing, TxId, Version};
+use text_words::read_payload;
 use wire_frame::{decode, encode};
 
 type Scanning = Node<ScanGuard<Serial>>;

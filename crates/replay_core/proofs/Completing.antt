@@ -4,7 +4,7 @@ use Rattle.std.proofs.Common.{◌≡◌, ◌⊎◌, inl, inr, ℕ, true, false, 
 use Rattle.std.specs.Prelude.{IsErrOf}
 use Rattle.tcs_io.specs.Faults.{Rose}
 use Rattle.tcs_terms.specs.declared.inputs.Event.{Event}
-use Rattle.tcs_terms.specs.declared.words.Reason.{Reason}
+use Rattle.text_words.specs.declared.words.Reason.{Reason}
 use Rattle.tcs_terms.specs.Setups.{Deployment}
 use Rattle.tcs_laws.specs.Certification.{Tests}
 use Rattle.schedule_text.specs.declared.reader.LineItem.{LineItem}

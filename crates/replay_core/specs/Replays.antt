@@ -2,7 +2,7 @@
 use Rattle.std.specs.Prelude.{◌≡◌, ◌⊎◌, ℕ, ◌+◌, ◌≤◌, false, List, [], ◌∷◌, ◌++◌, length, IsTrue, Option, Some, Result, Ok, Err}
 use Rattle.tcs_io.specs.Faults.{Rose}
 use Rattle.tcs_terms.specs.declared.inputs.Event.{Event}
-use Rattle.tcs_terms.specs.declared.words.Reason.{Reason}
+use Rattle.text_words.specs.declared.words.Reason.{Reason}
 use Rattle.tcs_terms.specs.Setups.{Deployment}
 use Rattle.schedule_text.specs.declared.limits.TheConstants.{LINE_LIMIT}
 use Rattle.schedule_text.specs.declared.lines.Got.TheVariants.{Whole}

@@ -6,7 +6,8 @@ use crate::runs::RunStop;
 use schedule_text::LinesStop;
 use std::alloc::AllocError;
 use tcs_io::SinkStop;
-use tcs_terms::{OutOfMemory, Reason};
+use tcs_terms::OutOfMemory;
+use text_words::Reason;
 use thiserror::Error;
 
 /// Why a replay ended before its end.

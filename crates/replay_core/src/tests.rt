@@ -3,7 +3,7 @@ use std::alloc::Global;
 use std::process::Abort;
 use std::test::Fail;
 use tcs_io::{MemSink, MemSource};
-use tcs_terms::Reason;
+use text_words::Reason;
 
 /// The worked run of one transaction that commits.
 const ONE_COMMIT: &str = concat!(

@@ -12,22 +12,23 @@ use Rattle.tcs_terms.specs.declared.limits.TheConstants.{MAX_WANTED}
 use Rattle.tcs_terms.specs.Events.{has_shard, input_fits, event_fits}
 use Rattle.tcs_terms.specs.Order.{ascends}
 use Rattle.tcs_terms.specs.Payloads.{Accesses, same_name}
-use Rattle.tcs_terms.specs.PayloadWords.{payload_at, FitsVersion, name_word}
+use Rattle.text_words.specs.PayloadWords.{payload_at, FitsVersion, name_word}
 use Rattle.tcs_terms.specs.Setups.{Deployment, has_node, is_node_of}
 use Rattle.tcs_terms.proofs.BoolLaws.{both, left_of, right_of}
-use Rattle.tcs_terms.proofs.PayloadReadings.{payload_takes}
-use Rattle.tcs_terms.proofs.WordReadings.{name_takes}
+use Rattle.text_words.proofs.PayloadReadings.{payload_takes}
+use Rattle.text_words.proofs.WordReadings.{name_takes}
 use Rattle.tcs_terms.proofs.RuleReadings.{named}
 use Rattle.schedule_text.specs.declared.verbs.CallVerb.{CallVerb}
 use Rattle.schedule_text.specs.declared.verbs.CallVerb.TheVariants as calls
 use Rattle.schedule_text.specs.declared.verbs.Verb.{Verb}
 use Rattle.schedule_text.specs.declared.verbs.Verb.TheVariants as verbs
-use Rattle.tcs_terms.specs.Texts.{txn_text}
+use Rattle.text_words.specs.Texts.{txn_text}
 use Rattle.tcs_terms.specs.Runs.{IsInput, IsEvent}
 use Rattle.schedule_text.specs.Words.{is_for, end_at, between_at, caller_at, name_at, payload_words_at, txn_at, nodes_at}
 use Rattle.schedule_text.specs.Events.{call_verb, verb_or, verb_of, alone_at, certify_at, take_at, move_at, read_at, ask_at, input_at, call_at, delivery_at, stop_at, event_at, names_only}
 use Rattle.schedule_text.proofs.LineWords.{call_words, event_words}
-use Rattle.schedule_text.proofs.Steps.{bind_ok, reasoned_ok, ok_is}
+use Rattle.schedule_text.proofs.Steps.{reasoned_ok}
+use Rattle.text_words.proofs.Steps.{bind_ok, ok_is}
 use Rattle.schedule_text.proofs.NumberReadings.{end_takes, between_takes, caller_takes}
 use Rattle.schedule_text.proofs.NodeReadings.{nodes_take}
 use Rattle.schedule_text.proofs.TxnReadings.{txn_takes}

@@ -13,18 +13,18 @@ use Rattle.tcs_terms.specs.declared.limits.TheConstants.{MAX_WANTED}
 use Rattle.tcs_terms.specs.Events.{has_shard, input_fits, event_fits}
 use Rattle.tcs_terms.specs.Order.{ascends}
 use Rattle.tcs_terms.specs.Payloads.{Accesses}
-use Rattle.tcs_terms.specs.PayloadWords.{FitsVersion}
+use Rattle.text_words.specs.PayloadWords.{FitsVersion}
 use Rattle.tcs_terms.specs.Setups.{Deployment, has_node, is_node_of}
 use Rattle.tcs_terms.proofs.BoolLaws.{left_of, right_of}
-use Rattle.tcs_terms.proofs.PayloadReadings.{payload_words, payload_again}
+use Rattle.text_words.proofs.PayloadReadings.{payload_words, payload_again}
 use Rattle.schedule_text.specs.declared.verbs.CallVerb.{CallVerb}
 use Rattle.schedule_text.specs.declared.verbs.CallVerb.TheVariants as calls
 use Rattle.schedule_text.specs.declared.verbs.Verb.{Verb}
 use Rattle.schedule_text.specs.declared.verbs.Verb.TheVariants as verbs
-use Rattle.tcs_terms.specs.Texts.{txn_text}
+use Rattle.text_words.specs.Texts.{txn_text}
 use Rattle.tcs_terms.specs.Runs.{IsInput, IsEvent}
 use Rattle.schedule_text.specs.Events.{alone_at, certify_at, take_at, move_at, read_at, ask_at, input_at, call_at, delivery_at, stop_at, event_at, names_only}
-use Rattle.schedule_text.proofs.CursorLemmas.{name_at_again}
+use Rattle.schedule_text.proofs.NameReadings.{name_at_again}
 use Rattle.schedule_text.proofs.EventReadings.{call_word, verb_word, ascend_from_zero}
 use Rattle.schedule_text.proofs.LineWords.{call_words, event_words, IsSpellable, IsSpellableEvent}
 use Rattle.schedule_text.proofs.NumberReadings.{between_again, caller_again}

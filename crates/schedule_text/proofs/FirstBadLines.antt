@@ -4,8 +4,8 @@ use Rattle.std.specs.List.{flat_map, AllByRecursion}
 use Rattle.std.proofs.lemmas.Bool.{or_parts, eq-eqb}
 use Rattle.std.proofs.lemmas.List.{append-nil, nil_from_length, take_at}
 use Rattle.tcs_terms.specs.declared.inputs.Event.{Event}
-use Rattle.tcs_terms.specs.declared.words.Reason.{Reason}
-use Rattle.tcs_terms.specs.declared.words.Reason.TheVariants as reasons
+use Rattle.text_words.specs.declared.words.Reason.{Reason}
+use Rattle.text_words.specs.declared.words.Reason.TheVariants as reasons
 use Rattle.tcs_terms.specs.Setups.{Deployment}
 use Rattle.schedule_text.specs.declared.lines.Got.{Got}
 use Rattle.schedule_text.specs.declared.lines.Got.TheVariants.{Whole, Cut, Long, Nothing}
@@ -22,7 +22,7 @@ use Rattle.schedule_text.proofs.LineLemmas.{feed_shows, one_first_line}
 use Rattle.schedule_text.proofs.ScheduleReadings.{read_to_the_end}
 use Rattle.schedule_text.proofs.ScheduleSpellings.{schedule_read, one_schedule}
 use Rattle.schedule_text.proofs.ShortLines.{lines_fit}
-use Rattle.schedule_text.proofs.Steps.{bind_ok, ok_is, not_both}
+use Rattle.text_words.proofs.Steps.{bind_ok, ok_is, not_both}
 
 -- ---- one next line
 

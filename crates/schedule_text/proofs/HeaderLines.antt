@@ -10,7 +10,7 @@ use Rattle.tcs_terms.specs.declared.faults.BadSetup.TheVariants as faults
 use Rattle.tcs_terms.specs.Places.{Membership, IsMembership}
 use Rattle.tcs_terms.specs.SetupFaults.{may_be_nodes, firsts_from}
 use Rattle.tcs_terms.specs.Setups.{Deployment, IsDeployment, is_node_of, is_first}
-use Rattle.tcs_terms.specs.Words.{words_of}
+use Rattle.text_words.specs.Words.{words_of}
 use Rattle.tcs_terms.proofs.BoolLaws.{left_of, right_of, not_true, passed}
 use Rattle.tcs_terms.proofs.SetupLaws.{no_fault_of_a_deployment}
 use Rattle.schedule_text.specs.declared.places.Place.{Place}

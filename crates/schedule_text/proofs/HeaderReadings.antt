@@ -6,18 +6,18 @@ use Rattle.std.proofs.lemmas.Bool.Decides.{nat_tests}
 use Rattle.std.proofs.lemmas.List.{nil_from_length, append-nil, length-append}
 use Rattle.tcs_terms.specs.declared.limits.TheConstants.{MAX_SHARDS, MAX_NODES, MAX_MEMBERS}
 use Rattle.tcs_terms.specs.declared.setups.Rule.{Rule}
-use Rattle.tcs_terms.specs.declared.words.Reason.TheVariants as reasons
+use Rattle.text_words.specs.declared.words.Reason.TheVariants as reasons
 use Rattle.tcs_terms.specs.ConfigFaults.{config_fault}
 use Rattle.tcs_terms.specs.Places.{Membership, IsMembership}
 use Rattle.tcs_terms.specs.SetupFaults.{setup_fault}
 use Rattle.tcs_terms.specs.Setups.{Deployment, IsDeployment}
-use Rattle.tcs_terms.specs.Words.{words_of, begins, after}
+use Rattle.text_words.specs.Words.{words_of, begins, after}
 use Rattle.tcs_terms.proofs.BoolLaws.{right_of}
 use Rattle.tcs_terms.proofs.PlaceLaws.{is_membership_without_fault}
 use Rattle.tcs_terms.proofs.SetupLaws.{is_deployment_without_fault}
 use Rattle.schedule_text.specs.declared.places.Place.{Place}
 use Rattle.schedule_text.specs.declared.places.Place.TheVariants as places
-use Rattle.tcs_terms.specs.Texts.{rule_text, rule_in}
+use Rattle.tcs_terms.specs.Rules.{rule_text, rule_in}
 use Rattle.schedule_text.specs.Text.{version_line, certifier_line, shards_line, node_line, node_lines, config_line, first_lines, setup_lines}
 use Rattle.schedule_text.specs.Words.{fixed_at, end_at, number_at, between_at, node_of_at, nodes_at}
 use Rattle.schedule_text.specs.Header.{Head, rule_or, rule_at, version_at, certifier_at, shards_at, next_at, node_at, shard_in_order_at, members_at, first_config_at, config_at, setup_or, begun_at, has_place_for, events_at, part_at, head_at}
@@ -28,7 +28,7 @@ use Rattle.schedule_text.proofs.NodeReadings.{nodes_take}
 use Rattle.schedule_text.proofs.NumberReadings.{begun, fixed_takes, end_takes, number_read, between_takes, node_of_takes}
 use Rattle.schedule_text.proofs.PrintLemmas.{node_lines_end}
 use Rattle.schedule_text.proofs.Spaces.{same_words}
-use Rattle.schedule_text.proofs.Steps.{bind_ok, met, ok_is}
+use Rattle.text_words.proofs.Steps.{bind_ok, met, ok_is}
 
 -- ---- where a reader stands in the header
 

@@ -14,7 +14,7 @@ use Rattle.tcs_terms.proofs.BoolLaws.{left_of, right_of}
 use Rattle.tcs_terms.proofs.PlaceLaws.{no_fault_of_a_membership}
 use Rattle.tcs_terms.proofs.SetupLaws.{no_fault_of_a_deployment}
 use Rattle.schedule_text.specs.declared.places.Place.TheVariants as places
-use Rattle.tcs_terms.specs.Texts.{rule_text}
+use Rattle.tcs_terms.specs.Rules.{rule_text}
 use Rattle.tcs_terms.proofs.RuleReadings.{word_names}
 use Rattle.schedule_text.specs.Header.{rule_at, version_at, certifier_at, shards_at, next_at, node_at, shard_in_order_at, members_at, first_config_at, config_at, begun_at, has_place_for, events_at, part_at, head_at}
 use Rattle.schedule_text.proofs.EventReadings.{ascend_from_zero}

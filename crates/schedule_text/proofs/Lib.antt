@@ -1,7 +1,7 @@
 mod BufferLemmas
 pub mod BytesRead
 pub mod FirstBadLines
-pub mod CursorLemmas
+pub mod NameReadings
 pub mod EventReadings
 pub mod EventSpellings
 pub mod EveryText

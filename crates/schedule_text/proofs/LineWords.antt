@@ -8,12 +8,13 @@ use Rattle.tcs_terms.specs.declared.setups.Rule.{Rule}
 use Rattle.tcs_terms.specs.declared.setups.Rule.TheVariants as rules
 use Rattle.tcs_terms.specs.Objects.{IsName}
 use Rattle.tcs_terms.specs.Payloads.{IsPayload}
-use Rattle.tcs_terms.specs.PayloadText.{payload_text}
+use Rattle.text_words.specs.PayloadText.{payload_text}
 use Rattle.tcs_terms.specs.Places.{Membership}
-use Rattle.tcs_terms.specs.Words.{words_of}
-use Rattle.tcs_terms.proofs.PayloadReadings.{payload_words}
-use Rattle.tcs_terms.proofs.PayloadSpelling.{words_of_payload}
-use Rattle.tcs_terms.specs.Texts.{rule_text, txn_text}
+use Rattle.text_words.specs.Words.{words_of}
+use Rattle.text_words.proofs.PayloadReadings.{payload_words}
+use Rattle.text_words.proofs.PayloadSpelling.{words_of_payload}
+use Rattle.text_words.specs.Texts.{txn_text}
+use Rattle.tcs_terms.specs.Rules.{rule_text}
 use Rattle.schedule_text.specs.Text.{numbers_text, version_line, certifier_line, shards_line, node_line, config_line, call_line, event_line}
 use Rattle.schedule_text.proofs.Spaces.{Free, free_decimal, free_name, free_append, words_then, word_alone, words_of_numbers}
 

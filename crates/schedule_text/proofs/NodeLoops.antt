@@ -3,11 +3,12 @@ use Rattle.std.proofs.Common.{◌≡◌, ℕ, zero, suc, Bool, false, true, cond
 use Rattle.std.specs.Prelude.{◌==◌}
 use Rattle.std.proofs.lemmas.Bool.{eqb-true}
 use Rattle.std.proofs.lemmas.List.{append-nil}
-use Rattle.tcs_terms.specs.declared.words.Reason.{Reason}
-use Rattle.tcs_terms.specs.declared.words.Reason.TheVariants as reasons
+use Rattle.text_words.specs.declared.words.Reason.{Reason}
+use Rattle.text_words.specs.declared.words.Reason.TheVariants as reasons
 use Rattle.schedule_text.specs.declared.faults.LineFault.{LineFault}
 use Rattle.schedule_text.specs.declared.faults.LineFault.TheVariants as faults
-use Rattle.schedule_text.specs.Words.{◌>>=◌, next_node_at, nodes_at, no_room, Fails, Gives}
+use Rattle.schedule_text.specs.Words.{next_node_at, nodes_at, no_room, Fails, Gives}
+use Rattle.text_words.specs.PayloadWords.{◌>>=◌}
 
 -- what was read before, and what is still read
 abbrev pub with_front : List ℕ → Result (List ℕ) Reason → Result (List ℕ) Reason

@@ -4,13 +4,14 @@ use Rattle.std.specs.Prelude.{nat_lt, ◌==◌, decimal}
 use Rattle.std.specs.List.{list_all}
 use Rattle.std.proofs.lemmas.Bool.{eqb-true}
 use Rattle.std.proofs.lemmas.Bool.Decides.{nat_tests}
-use Rattle.tcs_terms.specs.declared.words.Reason.TheVariants as reasons
+use Rattle.text_words.specs.declared.words.Reason.TheVariants as reasons
 use Rattle.tcs_terms.specs.Order.{ascends}
 use Rattle.tcs_terms.specs.Setups.{has_node, is_node_of}
 use Rattle.tcs_terms.proofs.BoolLaws.{both, left_of, right_of}
 use Rattle.std.proofs.lemmas.List.{nil_from_length}
-use Rattle.schedule_text.specs.Words.{◌>>=◌, next_node_at, nodes_at}
-use Rattle.schedule_text.proofs.Steps.{bind_ok, ok_is}
+use Rattle.schedule_text.specs.Words.{next_node_at, nodes_at}
+use Rattle.text_words.specs.PayloadWords.{◌>>=◌}
+use Rattle.text_words.proofs.Steps.{bind_ok, ok_is}
 use Rattle.schedule_text.proofs.NumberReadings.{next_node_takes, next_node_again}
 
 pub record Nodes (nodes : List ℕ) (shard room last : ℕ) (words : List (List ℕ)) (ns : List ℕ) : Type 0 where

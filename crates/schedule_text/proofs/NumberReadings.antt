@@ -5,15 +5,17 @@ use Rattle.std.proofs.lemmas.Bool.{eqb-true}
 use Rattle.std.proofs.lemmas.Bool.Decides.{nat_tests}
 use Rattle.std.proofs.lemmas.List.{nil_from_length}
 use Rattle.std.specs.Cmp.Lexicographic.{bytes_decides}
-use Rattle.tcs_terms.specs.declared.words.Reason.{Reason}
-use Rattle.tcs_terms.specs.declared.words.Reason.TheVariants as reasons
+use Rattle.text_words.specs.declared.words.Reason.{Reason}
+use Rattle.text_words.specs.declared.words.Reason.TheVariants as reasons
 use Rattle.tcs_terms.specs.Setups.{has_node, is_node_of}
-use Rattle.tcs_terms.specs.PayloadWords.{number_word}
-use Rattle.tcs_terms.specs.Words.{begins, after}
+use Rattle.text_words.specs.PayloadWords.{fixed_word, all_read, number_word}
+use Rattle.text_words.specs.Words.{begins, after}
 use Rattle.tcs_terms.proofs.BoolLaws.{both}
-use Rattle.tcs_terms.proofs.WordReadings.{number_takes, number_again}
-use Rattle.schedule_text.specs.Words.{◌>>=◌, fixed_at, end_at, number_at, between_at, is_for, caller_at, node_of_at, next_node_at}
-use Rattle.schedule_text.proofs.Steps.{bind_ok, reasoned_ok, met}
+use Rattle.text_words.proofs.WordReadings.{number_takes, number_again}
+use Rattle.schedule_text.specs.Words.{fixed_at, end_at, number_at, between_at, is_for, caller_at, node_of_at, next_node_at}
+use Rattle.text_words.specs.PayloadWords.{◌>>=◌}
+use Rattle.schedule_text.proofs.Steps.{reasoned_ok}
+use Rattle.text_words.proofs.Steps.{bind_ok, met}
 
 -- ---- words that are fixed, and the end
 
@@ -23,12 +25,12 @@ begun word (w ∷ ws) h = ap (λ (v : List ℕ). v ∷ ws) ((bytes_decides w wor
 
 pub fixed_takes : (word : List ℕ) (words : List (List ℕ)) (x : Unit {0} × List (List ℕ)) → fixed_at word words ≡ Ok x → words ≡ word ∷ x.1
 fixed_takes word words x h =
-    let m = met (begins word words) reasons.Word (tt, after words) x h in
+    let m = met (begins word words) _ (tt, after words) x (reasoned_ok (fixed_word word words) x h) in
     begun word words m.0 ∙ ap (λ (y : Unit {0} × List (List ℕ)). word ∷ y.1) m.1
 
 pub end_takes : (words : List (List ℕ)) (x : Unit {0} × List (List ℕ)) → end_at words ≡ Ok x → words ≡ []
 end_takes words x h =
-    let m = met (length words == 0) reasons.Word (tt, words) x h in
+    let m = met (length words == 0) _ (tt, words) x (reasoned_ok (all_read words) x h) in
     nil_from_length words (eqb-true _ _ m.0)
 
 -- ---- numbers that pass a test

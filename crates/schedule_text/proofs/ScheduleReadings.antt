@@ -5,9 +5,9 @@ use Rattle.std.specs.List.{AllByRecursion}
 use Rattle.std.proofs.lemmas.Bool.Decides.{nat_tests}
 use Rattle.std.proofs.lemmas.List.{append-nil, length-append}
 use Rattle.tcs_terms.specs.declared.inputs.Event.{Event}
-use Rattle.tcs_terms.specs.declared.words.Reason.TheVariants as reasons
+use Rattle.text_words.specs.declared.words.Reason.TheVariants as reasons
 use Rattle.tcs_terms.specs.Setups.{Deployment, IsDeployment}
-use Rattle.tcs_terms.specs.Words.{words_of, begins, after}
+use Rattle.text_words.specs.Words.{words_of, begins, after}
 use Rattle.schedule_text.specs.declared.limits.TheConstants.{EVENT_LIMIT}
 use Rattle.schedule_text.specs.declared.lines.Got.TheVariants.{Whole}
 use Rattle.schedule_text.specs.declared.places.Place.{Place}
@@ -28,7 +28,7 @@ use Rattle.schedule_text.proofs.HeaderReadings.{head_lines, HeadStands, HeadItem
 use Rattle.schedule_text.proofs.LineWords.{words_of_event}
 use Rattle.schedule_text.proofs.NumberReadings.{begun, end_takes}
 use Rattle.schedule_text.proofs.Spaces.{same_words}
-use Rattle.schedule_text.proofs.Steps.{bind_ok, chosen, ok_is}
+use Rattle.text_words.proofs.Steps.{bind_ok, chosen, ok_is}
 
 -- ---- where a reader stands
 

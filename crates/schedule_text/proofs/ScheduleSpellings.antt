@@ -5,9 +5,9 @@ use Rattle.std.specs.List.{AllByRecursion}
 use Rattle.std.proofs.lemmas.Bool.Decides.{nat_tests}
 use Rattle.tcs_terms.specs.declared.inputs.Event.{Event}
 use Rattle.tcs_terms.specs.declared.inputs.Event.TheVariants.{Call, DeliverNumber, Stop}
-use Rattle.tcs_terms.specs.declared.words.Reason.{Reason}
+use Rattle.text_words.specs.declared.words.Reason.{Reason}
 use Rattle.tcs_terms.specs.Setups.{Deployment, IsDeployment}
-use Rattle.tcs_terms.specs.Words.{words_of, begins}
+use Rattle.text_words.specs.Words.{words_of, begins}
 use Rattle.schedule_text.specs.declared.limits.TheConstants.{EVENT_LIMIT}
 use Rattle.schedule_text.specs.declared.lines.Got.TheVariants.{Whole}
 use Rattle.schedule_text.specs.declared.places.Place.{Place}
@@ -30,7 +30,7 @@ use Rattle.schedule_text.proofs.HeaderReadings.{in_header, head_lines, setup_is_
 use Rattle.schedule_text.proofs.HeaderSpellings.{events_again}
 use Rattle.schedule_text.proofs.LineWords.{words_of_event}
 use Rattle.schedule_text.proofs.ScheduleReadings.{at, headed, event_items, small_setup}
-use Rattle.schedule_text.proofs.Steps.{bind_ok, ok_is, not_both}
+use Rattle.text_words.proofs.Steps.{bind_ok, ok_is, not_both}
 
 -- ---- lines that are read, joined
 

@@ -6,9 +6,9 @@ use Rattle.std.proofs.lemmas.List.{append-nil}
 use Rattle.tcs_terms.specs.declared.inputs.Event.{Event}
 use Rattle.tcs_terms.specs.declared.inputs.Event.TheVariants as events
 use Rattle.tcs_terms.specs.declared.limits.TheConstants.{MAX_SHARDS}
-use Rattle.tcs_terms.specs.declared.words.Reason.TheVariants as reasons
+use Rattle.text_words.specs.declared.words.Reason.TheVariants as reasons
 use Rattle.tcs_terms.specs.Setups.{Deployment, IsDeployment}
-use Rattle.tcs_terms.specs.Words.{words_of, begins, after}
+use Rattle.text_words.specs.Words.{words_of, begins, after}
 use Rattle.schedule_text.specs.declared.limits.TheConstants.{SCRIPT_LINES, MOST_TURNS, MOST_NODE_TURNS}
 use Rattle.schedule_text.specs.declared.lines.Got.TheVariants.{Whole}
 use Rattle.schedule_text.specs.declared.places.Place.{Place}
@@ -36,7 +36,7 @@ use Rattle.schedule_text.proofs.NumberReadings.{begun, end_takes, number_read, b
 use Rattle.schedule_text.proofs.ScheduleReadings.{small_setup}
 use Rattle.schedule_text.proofs.ScriptSpellings.{script_at, script_headed, settle_words}
 use Rattle.schedule_text.proofs.Spaces.{same_words}
-use Rattle.schedule_text.proofs.Steps.{bind_ok, chosen, met, ok_is}
+use Rattle.text_words.proofs.Steps.{bind_ok, chosen, met, ok_is}
 
 -- ---- the last line of the header
 

@@ -7,7 +7,7 @@ use Rattle.tcs_terms.specs.declared.inputs.Input.TheVariants as inputs
 use Rattle.tcs_terms.specs.declared.inputs.Event.{Event}
 use Rattle.tcs_terms.specs.declared.inputs.Event.TheVariants as events
 use Rattle.tcs_terms.specs.Setups.{Deployment}
-use Rattle.tcs_terms.specs.Words.{words_of, begins}
+use Rattle.text_words.specs.Words.{words_of, begins}
 use Rattle.schedule_text.specs.declared.limits.TheConstants.{SCRIPT_LINES, MOST_TURNS, MOST_NODE_TURNS}
 use Rattle.schedule_text.specs.declared.lines.Got.TheVariants.{Whole}
 use Rattle.schedule_text.specs.declared.places.Place.{Place}
@@ -33,7 +33,7 @@ use Rattle.schedule_text.proofs.HeaderSpellings.{events_again}
 use Rattle.schedule_text.proofs.LineWords.{event_words, words_of_event, word_and_number}
 use Rattle.schedule_text.proofs.NumberReadings.{number_reads, between_again}
 use Rattle.schedule_text.proofs.ScheduleReadings.{small_setup}
-use Rattle.schedule_text.proofs.Steps.{bind_ok, ok_is}
+use Rattle.text_words.proofs.Steps.{bind_ok, ok_is}
 
 -- where a reader stands
 abbrev pub script_at : ScriptForm → Place → Deployment → ℕ → ℕ → ScriptProgress

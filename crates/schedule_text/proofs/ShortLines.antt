@@ -21,15 +21,15 @@ use Rattle.tcs_terms.specs.declared.setups.Rule.TheVariants as rules
 use Rattle.tcs_terms.specs.Events.{input_fits, event_fits}
 use Rattle.tcs_terms.specs.Objects.{IsName, IsValue}
 use Rattle.tcs_terms.specs.Payloads.{Accesses, same_name, IsReadPart, IsRangePart, IsWritePart, IsPayload}
-use Rattle.tcs_terms.specs.PayloadText.{value_text, read_text, range_text, write_text, payload_text}
-use Rattle.tcs_terms.specs.PayloadWords.{is_lower_digit, value_in}
+use Rattle.text_words.specs.PayloadText.{value_text, read_text, range_text, write_text, payload_text}
+use Rattle.text_words.specs.HexWords.{is_lower_digit, value_in}
 use Rattle.tcs_terms.specs.Places.{Membership, IsMembership, is_node, is_among}
 use Rattle.tcs_terms.specs.Setups.{Deployment, has_node}
 use Rattle.tcs_terms.proofs.BoolLaws.{left_of, right_of}
-use Rattle.tcs_terms.proofs.ValueLaws.{value_in_again}
+use Rattle.text_words.proofs.ValueLaws.{value_in_again}
 use Rattle.schedule_text.specs.declared.limits.TheConstants.{LINE_LIMIT}
 use Rattle.schedule_text.specs.Lines.{has_feed, IsLine}
-use Rattle.tcs_terms.specs.Texts.{txn_text}
+use Rattle.text_words.specs.Texts.{txn_text}
 use Rattle.schedule_text.specs.Text.{spaced_number, numbers_text, version_line, certifier_line, shards_line, node_line, node_lines, config_line, first_lines, setup_lines, call_line, event_line, schedule_lines}
 use Rattle.schedule_text.specs.Whole.{IsSchedule}
 use Rattle.tcs_terms.specs.Runs.{MayStand}

@@ -9,9 +9,9 @@ use Rattle.std.proofs.lemmas.Fmt.{digits_decimal}
 use Rattle.std.proofs.lemmas.List.{append-nil, length-append}
 use Rattle.std.proofs.lemmas.List.Splits.{slice_split_none, slice_split_at, slice_split_first, length-slice_split, join_with_byte-slice_split}
 use Rattle.tcs_terms.specs.Objects.{is_name_byte, IsName}
-use Rattle.tcs_terms.specs.Words.{words_of}
+use Rattle.text_words.specs.Words.{words_of}
 use Rattle.tcs_terms.proofs.BoolLaws.{both, left_of, right_of}
-use Rattle.tcs_terms.proofs.NumberLaws.{numerals}
+use Rattle.text_words.proofs.NumberLaws.{numerals}
 use Rattle.schedule_text.specs.Text.{numbers_text}
 
 -- ---- words without a byte

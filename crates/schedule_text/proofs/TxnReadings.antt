@@ -7,14 +7,14 @@ use Rattle.std.proofs.lemmas.Bool.Decides.{nat_tests}
 use Rattle.std.proofs.lemmas.List.{length-append, take_at, drop_at}
 use Rattle.tcs_terms.specs.declared.ids.TxId.{TxId}
 use Rattle.tcs_terms.specs.declared.limits.TheConstants.{MAX_SEQUENCE}
-use Rattle.tcs_terms.specs.declared.words.Reason.TheVariants as reasons
-use Rattle.tcs_terms.specs.PayloadWords.{is_numeral, is_printable, misfit, number_in, number_or, number_word}
+use Rattle.text_words.specs.declared.words.Reason.TheVariants as reasons
+use Rattle.text_words.specs.PayloadWords.{is_numeral, is_printable, misfit, number_in, number_or, number_word}
 use Rattle.tcs_terms.specs.Setups.{has_node}
 use Rattle.tcs_terms.proofs.BoolLaws.{left_of, right_of}
-use Rattle.tcs_terms.proofs.WordReadings.{number_takes, number_again}
-use Rattle.tcs_terms.specs.Texts.{txn_text}
+use Rattle.text_words.proofs.WordReadings.{number_takes, number_again}
+use Rattle.text_words.specs.Texts.{txn_text}
 use Rattle.schedule_text.specs.Words.{txn_numbers, txn_parts, txn_in, txn_at}
-use Rattle.schedule_text.proofs.Steps.{bind_ok, ok_is, met, chosen}
+use Rattle.text_words.proofs.Steps.{bind_ok, ok_is, met, chosen}
 use Rattle.schedule_text.proofs.Spaces.{free_decimal, first_place, split_at_first}
 
 abbrev pub may_be : List ℕ → TxId → Bool

@@ -5,14 +5,15 @@ use Rattle.tcs_terms.specs.declared.inputs.Input.TheVariants as inputs
 use Rattle.tcs_terms.specs.declared.inputs.Event.{Event}
 use Rattle.tcs_terms.specs.declared.inputs.Event.TheVariants as events
 use Rattle.tcs_terms.specs.declared.limits.TheConstants.{MAX_WANTED}
-use Rattle.tcs_terms.specs.declared.words.Reason.{Reason}
+use Rattle.text_words.specs.declared.words.Reason.{Reason}
 use Rattle.tcs_terms.specs.Payloads.{same_name}
 use Rattle.tcs_terms.specs.Setups.{Deployment}
 use Rattle.schedule_text.specs.declared.verbs.CallVerb.{CallVerb}
 use Rattle.schedule_text.specs.declared.verbs.CallVerb.TheVariants as calls
 use Rattle.schedule_text.specs.declared.verbs.Verb.{Verb}
 use Rattle.schedule_text.specs.declared.verbs.Verb.TheVariants as verbs
-use Rattle.schedule_text.specs.Words.{◌>>=◌, is_for, end_at, between_at, caller_at, name_at, payload_words_at, txn_at, nodes_at}
+use Rattle.schedule_text.specs.Words.{is_for, end_at, between_at, caller_at, name_at, payload_words_at, txn_at, nodes_at}
+use Rattle.text_words.specs.PayloadWords.{◌>>=◌}
 
 -- ---- first words
 

@@ -1,6 +1,5 @@
 pub mod Buffer
 pub mod Bytes
-pub mod Cursor
 pub mod Events
 pub mod Header
 pub mod Lines

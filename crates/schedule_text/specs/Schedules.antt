@@ -1,9 +1,9 @@
 -- How the lines of a schedule are read, one after the other.
 use Rattle.std.specs.Prelude.{ℕ, ◌+◌, Bool, true, false, nat_lt, if◌then◌else◌, List, [], ◌∷◌, codes, Option, Some, None, Result, Ok, Err}
-use Rattle.tcs_terms.specs.declared.words.Reason.{Reason}
-use Rattle.tcs_terms.specs.declared.words.Reason.TheVariants as reasons
+use Rattle.text_words.specs.declared.words.Reason.{Reason}
+use Rattle.text_words.specs.declared.words.Reason.TheVariants as reasons
 use Rattle.tcs_terms.specs.Setups.{Deployment}
-use Rattle.tcs_terms.specs.Words.{words_of, begins, after}
+use Rattle.text_words.specs.Words.{words_of, begins, after}
 use Rattle.schedule_text.specs.declared.limits.TheConstants.{EVENT_LIMIT}
 use Rattle.schedule_text.specs.declared.lines.Got.{Got}
 use Rattle.schedule_text.specs.declared.lines.Got.TheVariants as gots
@@ -12,7 +12,8 @@ use Rattle.schedule_text.specs.declared.places.Place.TheVariants as places
 use Rattle.schedule_text.specs.declared.reader.LineItem.{LineItem}
 use Rattle.schedule_text.specs.declared.reader.LineItem.TheVariants as items
 use Rattle.schedule_text.specs.declared.verbs.Verb.{Verb}
-use Rattle.schedule_text.specs.Words.{◌>>=◌, end_at}
+use Rattle.schedule_text.specs.Words.{end_at}
+use Rattle.text_words.specs.PayloadWords.{◌>>=◌}
 use Rattle.schedule_text.specs.Header.{Head, head_at, no_parts}
 use Rattle.schedule_text.specs.Events.{verb_of, event_at}
 

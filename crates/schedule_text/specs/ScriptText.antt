@@ -3,7 +3,7 @@ use Rattle.std.specs.Prelude.{◌≡◌, ℕ, ◌+◌, ◌≤◌, Bool, true, fa
 use Rattle.std.specs.List.{flat_map, AllByRecursion}
 use Rattle.tcs_terms.specs.declared.inputs.Event.{Event}
 use Rattle.tcs_terms.specs.declared.inputs.Event.TheVariants.{Call, DeliverNumber, Stop}
-use Rattle.tcs_terms.specs.declared.words.Reason.{Reason}
+use Rattle.text_words.specs.declared.words.Reason.{Reason}
 use Rattle.tcs_terms.specs.Runs.{MayStand}
 use Rattle.tcs_terms.specs.Setups.{Deployment, IsDeployment}
 use Rattle.schedule_text.specs.declared.limits.TheConstants.{SCRIPT_LINES, MOST_TURNS, MOST_NODE_TURNS}
@@ -17,7 +17,7 @@ use Rattle.schedule_text.specs.Events.{names_only}
 use Rattle.schedule_text.specs.Header.{has_place_for}
 use Rattle.schedule_text.specs.Scripts.{ScriptProgress, only_of, script_reading}
 use Rattle.schedule_text.specs.Text.{spaced_number, first_lines, node_lines, config_line, setup_lines, event_line, with_feed}
-use Rattle.schedule_text.specs.Words.{◌>>=◌}
+use Rattle.text_words.specs.PayloadWords.{◌>>=◌}
 
 -- ---- the lines
 

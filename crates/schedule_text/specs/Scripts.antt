@@ -1,9 +1,9 @@
 -- How the lines of a script are read, one after the other: a schedule without deliveries, with lines that let time pass.
 use Rattle.std.specs.Prelude.{ℕ, ◌+◌, ◌&&◌, nat_le, nat_lt, if◌then◌else◌, List, codes, Option, Some, None, Result, Ok, Err}
-use Rattle.tcs_terms.specs.declared.words.Reason.{Reason}
-use Rattle.tcs_terms.specs.declared.words.Reason.TheVariants as reasons
+use Rattle.text_words.specs.declared.words.Reason.{Reason}
+use Rattle.text_words.specs.declared.words.Reason.TheVariants as reasons
 use Rattle.tcs_terms.specs.Setups.{Deployment}
-use Rattle.tcs_terms.specs.Words.{words_of, begins, after}
+use Rattle.text_words.specs.Words.{words_of, begins, after}
 use Rattle.schedule_text.specs.declared.limits.TheConstants.{SCRIPT_LINES, MOST_TURNS, MOST_NODE_TURNS}
 use Rattle.schedule_text.specs.declared.lines.Got.{Got}
 use Rattle.schedule_text.specs.declared.lines.Got.TheVariants as gots
@@ -15,7 +15,8 @@ use Rattle.schedule_text.specs.declared.script.ScriptItem.{ScriptItem}
 use Rattle.schedule_text.specs.declared.script.ScriptItem.TheVariants as items
 use Rattle.schedule_text.specs.declared.verbs.Verb.{Verb}
 use Rattle.schedule_text.specs.declared.verbs.Verb.TheVariants as verbs
-use Rattle.schedule_text.specs.Words.{◌>>=◌, end_at, number_at, between_at}
+use Rattle.schedule_text.specs.Words.{end_at, number_at, between_at}
+use Rattle.text_words.specs.PayloadWords.{◌>>=◌}
 use Rattle.schedule_text.specs.Header.{Head, head_at, no_parts}
 use Rattle.schedule_text.specs.Events.{event_at}
 use Rattle.schedule_text.specs.Schedules.{first_verb, is_ended}

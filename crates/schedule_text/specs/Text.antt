@@ -7,9 +7,10 @@ use Rattle.tcs_terms.specs.declared.inputs.Event.{Event}
 use Rattle.tcs_terms.specs.declared.inputs.Event.TheVariants.{Call, DeliverNumber, Stop}
 use Rattle.tcs_terms.specs.declared.setups.Rule.{Rule}
 use Rattle.tcs_terms.specs.Places.{Membership}
-use Rattle.tcs_terms.specs.PayloadText.{payload_text}
+use Rattle.text_words.specs.PayloadText.{payload_text}
 use Rattle.tcs_terms.specs.Setups.{Deployment}
-use Rattle.tcs_terms.specs.Texts.{txn_text, rule_text}
+use Rattle.text_words.specs.Texts.{txn_text}
+use Rattle.tcs_terms.specs.Rules.{rule_text}
 
 -- ---- parts of a line
 

@@ -2,7 +2,7 @@
 use Rattle.std.specs.Prelude.{◌≡◌, ℕ, ◌≤◌, List, [], ◌∷◌, ◌++◌, length, map, Result, Ok}
 use Rattle.std.specs.List.{AllByRecursion}
 use Rattle.tcs_terms.specs.declared.inputs.Event.{Event}
-use Rattle.tcs_terms.specs.declared.words.Reason.{Reason}
+use Rattle.text_words.specs.declared.words.Reason.{Reason}
 use Rattle.tcs_terms.specs.Runs.{MayStand}
 use Rattle.tcs_terms.specs.Setups.{Deployment, IsDeployment}
 use Rattle.schedule_text.specs.declared.limits.TheConstants.{EVENT_LIMIT}
@@ -11,7 +11,7 @@ use Rattle.schedule_text.specs.declared.places.Place.TheVariants as places
 use Rattle.schedule_text.specs.declared.reader.LineItem.{LineItem}
 use Rattle.schedule_text.specs.declared.reader.LineItem.TheVariants as items
 use Rattle.schedule_text.specs.Text.{first_lines, node_lines, config_line, schedule_lines}
-use Rattle.schedule_text.specs.Words.{◌>>=◌}
+use Rattle.text_words.specs.PayloadWords.{◌>>=◌}
 use Rattle.schedule_text.specs.Schedules.{Progress, line_reading}
 
 -- a setup, and at most 1,000,000 events that fit it

@@ -3,20 +3,16 @@
 use Rattle.std.specs.Prelude.{◌≡◌, ℕ, zero, suc, ◌+◌, Bool, true, ◌&&◌, ◌==◌, nat_le, nat_lt, if◌then◌else◌, List, [], ◌∷◌, length, position, take, drop, Option, Some, None, Result, Ok, Err}
 use Rattle.tcs_terms.specs.declared.ids.TxId.{TxId}
 use Rattle.tcs_terms.specs.declared.limits.TheConstants.{MAX_SEQUENCE}
-use Rattle.tcs_terms.specs.declared.words.Reason.{Reason}
-use Rattle.tcs_terms.specs.declared.words.Reason.TheVariants as reasons
-use Rattle.tcs_terms.specs.PayloadWords.{Misfit, is_numeral, number_in, number_word, name_word, payload_at}
+use Rattle.text_words.specs.declared.words.Reason.{Reason}
+use Rattle.text_words.specs.declared.words.Reason.TheVariants as reasons
+use Rattle.text_words.specs.declared.words.Stop.{Stop}
+use Rattle.text_words.specs.declared.words.Stop.TheVariants as stops
+use Rattle.text_words.specs.PayloadWords.{Misfit, ◌>>=◌, is_numeral, number_in, fixed_word, all_read, number_word, name_word, payload_at}
 use Rattle.tcs_terms.specs.Payloads.{Accesses}
 use Rattle.tcs_terms.specs.Setups.{has_node, is_node_of}
-use Rattle.tcs_terms.specs.Words.{begins, after}
+use Rattle.text_words.specs.Words.{begins, after}
 use Rattle.schedule_text.specs.declared.faults.LineFault.{LineFault}
 use Rattle.schedule_text.specs.declared.faults.LineFault.TheVariants as faults
-
--- the next step of reading, if this one did not fail
-infixl 10 ◌>>=◌
-abbrev pub ◌>>=◌ : {A B : Type 0} → Result A Reason → (A → Result B Reason) → Result B Reason
-(Ok x) >>= f = f x
-(Err reason) >>= f = Err reason
 
 -- a reading by the words of a payload, where it is of interest only why the first word does not fit
 abbrev pub reasoned : {A : Type 0} → Result A Misfit → Result A Reason
@@ -27,11 +23,11 @@ reasoned (Err m) = Err m.reason
 
 -- a word that is fixed
 abbrev pub fixed_at : List ℕ → List (List ℕ) → Result (Unit {0} × List (List ℕ)) Reason
-fixed_at word words = if begins word words then Ok (tt, after words) else Err reasons.Word
+fixed_at word words = reasoned (fixed_word word words)
 
 -- no word may be left over
 abbrev pub end_at : List (List ℕ) → Result (Unit {0} × List (List ℕ)) Reason
-end_at words = if length words == 0 then Ok (tt, words) else Err reasons.Word
+end_at words = reasoned (all_read words)
 
 -- a number
 abbrev pub number_at : List (List ℕ) → Result (ℕ × List (List ℕ)) Reason
@@ -114,6 +110,11 @@ nodes_at nodes shard (suc room) last words =
     else (next_node_at nodes shard last words >>= λ n. nodes_at nodes shard room n.0 n.1 >>= λ others. Ok (n.0 ∷ others))
 
 -- ---- what the code answers
+
+-- the fault of a line, where a word does not fit
+abbrev pub line_fault : Stop → LineFault
+line_fault stops.OutOfMemory = faults.OutOfMemory
+line_fault (stops.Misfit left reason) = faults.Bad reason
 
 -- a reader's error is the reason, unless memory ran out
 abbrev pub Fails : {Y : Type 0} → LineFault → Result Y Reason → Type 0

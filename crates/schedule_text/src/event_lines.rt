@@ -3,7 +3,6 @@ ghost use Rattle.std.specs.Prelude.{◌≡◌};
 ghost use Rattle.schedule_text.specs.Words.{Gives};
 ghost use Rattle.schedule_text.specs.Events.{alone_at, certify_at, take_at, move_at, read_at, ask_at, input_at, call_at, delivery_at, stop_at, event_at};
 
-use crate::cursor::Words;
 use crate::faults::LineFault;
 use crate::header::Header;
 use crate::node_lists::nodes;
@@ -12,6 +11,7 @@ use crate::verbs::{CallVerb, Verb};
 use crate::word_readers::{between, caller, end, name, payload};
 use std::alloc::Global;
 use tcs_terms::limits::MAX_WANTED;
+use text_words::Words;
 use tcs_terms::{Event, Input, NodeId, ShardId, Wanted};
 
 #[tactic(auto, unfolding(crate::specs::Events::alone_at))]

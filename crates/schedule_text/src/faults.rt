@@ -3,7 +3,8 @@ ghost use Rattle.std.specs.Prelude.{◌≡◌, Err};
 ghost use Rattle.schedule_text.specs.declared.faults.LineFault.TheVariants.{Bad};
 
 use std::alloc::{AllocError, AllocFailed};
-use tcs_terms::{OutOfMemory, Reason};
+use tcs_terms::OutOfMemory;
+use text_words::{Reason, Stop};
 use thiserror::Error;
 
 /// Why a line is not taken.
@@ -23,6 +24,19 @@ impl From<OutOfMemory> for LineFault {
 
     fn from(_: OutOfMemory) -> LineFault {
         LineFault::OutOfMemory
+    }
+}
+
+impl From<Stop> for LineFault {
+    ghost use Rattle.schedule_text.specs.Words.{line_fault};
+
+    ghost from_gives = { λ stop fault. fault ≡ line_fault stop };
+
+    fn from(stop: Stop) -> LineFault {
+        match stop {
+            Stop::OutOfMemory => LineFault::OutOfMemory,
+            Stop::Misfit { reason, .. } => LineFault::Bad(reason),
+        }
     }
 }
 

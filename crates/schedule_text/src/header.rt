@@ -5,7 +5,6 @@ ghost use Rattle.tcs_terms.specs.Setups.{Deployment};
 ghost use Rattle.schedule_text.specs.Words.{Gives, Tells, end_at};
 ghost use Rattle.schedule_text.specs.Header.{Head, no_parts, rule_at, version_at, certifier_at, shards_at, next_at, node_at, shard_in_order_at, members_at, config_or, first_config_at, config_at, setup_or, begun_at, has_place_for, events_at, part_at, head_at};
 
-use crate::cursor::Words;
 use crate::faults::{LineFault, bad};
 use crate::node_lists::nodes;
 use crate::places::Place;
@@ -13,7 +12,8 @@ use crate::word_readers::{between, end, fixed, node_of, number};
 use std::alloc::Global;
 use std::marker::Model;
 use tcs_terms::limits::{MAX_MEMBERS, MAX_NODES, MAX_SHARDS};
-use tcs_terms::{Config, NodeId, OutOfMemory, Reason, Rule, Setup, ShardId};
+use tcs_terms::{Config, NodeId, OutOfMemory, Rule, Setup, ShardId};
+use text_words::{Reason, Words};
 
 /// The parts of a setup, put together line by line. Seen as the place in the text, and the parts so far.
 #[derive(Debug, Drop)]

@@ -2,7 +2,7 @@
 ghost use Rattle.std.specs.Prelude.{◌≡◌, ◌⊎◌, ◌≤◌, ◌+◌, ℕ, List, [], ◌∷◌, ◌++◌, length, Ok, Err};
 ghost use Rattle.std.specs.List.{AllByRecursion};
 ghost use Rattle.tcs_terms.specs.declared.inputs.Event.{Event};
-ghost use Rattle.tcs_terms.specs.declared.words.Reason.{Reason};
+ghost use Rattle.text_words.specs.declared.words.Reason.{Reason};
 ghost use Rattle.tcs_terms.specs.declared.limits.TheConstants.{MAX_NODES, MAX_SHARDS};
 ghost use Rattle.tcs_terms.specs.Runs.{MayStand};
 ghost use Rattle.tcs_terms.specs.Setups.{Deployment};

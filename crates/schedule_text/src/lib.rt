@@ -1,7 +1,6 @@
 //! The text of a schedule: its lines.
 #![tactic(auto)]
 
-mod cursor;
 mod event_lines;
 mod faults;
 mod header;

@@ -3,11 +3,11 @@ ghost use Rattle.std.specs.Prelude.{◌≡◌, ◌≤◌, ◌==◌, false, lengt
 ghost use Rattle.tcs_terms.specs.declared.limits.TheConstants.{MAX_NODES};
 ghost use Rattle.schedule_text.specs.Words.{Gives, Tells, no_room, next_node_at, nodes_at};
 
-use crate::cursor::Words;
 use crate::faults::{LineFault, bad};
 use crate::word_readers::next_node;
 use std::alloc::Global;
-use tcs_terms::{NodeId, Reason, ShardId};
+use tcs_terms::{NodeId, ShardId};
+use text_words::{Reason, Words};
 
 /// There is no room for the next word, of which there is one: it is one too many, unless it is empty.
 fn too_many(words: &mut Words) -> Result<Vec<NodeId>, LineFault>

@@ -2,30 +2,14 @@
 ghost use Rattle.std.specs.Prelude.{◌≡◌, ◌≤◌, ◌++◌, ◌∷◌, [], length, codes, decimal, map, IsTrue, OnOk, OnErr};
 ghost use Rattle.std.specs.List.{flat_map};
 ghost use Rattle.tcs_terms.specs.declared.limits.TheConstants.{MAX_NODES};
-ghost use Rattle.tcs_terms.specs.PayloadText.{payload_text};
+ghost use Rattle.text_words.specs.PayloadText.{payload_text};
 ghost use Rattle.tcs_terms.specs.Appends.{Begins};
 ghost use Rattle.schedule_text.specs.Printable.{has_line};
 ghost use Rattle.schedule_text.specs.ScriptText.{settle_line};
 ghost use Rattle.schedule_text.specs.Text.{spaced_number, numbers_text, version_line, certifier_line, shards_line, node_line, node_lines, config_line, first_lines, setup_lines, call_line, event_line, with_feed};
 
-use tcs_terms::{
-    Config, Event, Input, NodeId, OutOfMemory, Payload, Setup, ShardId, print_number,
-    print_payload, print_txn,
-};
-
-fn put(out: &mut Vec<u8>, text: &[u8]) -> Result<(), OutOfMemory>
-    ensures ok { OnOk result (out.new.items ≡ out.old.items ++ text.now) }
-    ensures err { OnErr result (Begins out.old.items out.new.items) }
-{
-    Ok(out.extend_from_slice(text)?)
-}
-
-fn put_number(out: &mut Vec<u8>, number: u64) -> Result<(), OutOfMemory>
-    ensures ok { OnOk result (out.new.items ≡ out.old.items ++ decimal number) }
-    ensures err { OnErr result (Begins out.old.items out.new.items) }
-{
-    print_number(number, out)
-}
+use tcs_terms::{Config, Event, Input, NodeId, OutOfMemory, Payload, Setup, ShardId};
+use text_words::{print_payload, put, put_number, put_txn};
 
 /// A number, with the space before it.
 fn put_spaced(out: &mut Vec<u8>, number: u64) -> Result<(), OutOfMemory>
@@ -160,7 +144,7 @@ fn put_call(out: &mut Vec<u8>, node: NodeId, input: &Input) -> Result<(), OutOfM
         Input::Take(txn) => {
             put_headed(out, b"take", node)?;
             put(out, b" ")?;
-            print_txn(*txn, out)
+            put_txn(out, *txn)
         }
         Input::Nudge => put_headed(out, b"nudge", node),
         Input::Move { shard, want } => {

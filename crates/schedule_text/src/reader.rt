@@ -1,12 +1,11 @@
 //! Reads a schedule, line by line.
 ghost use Rattle.std.specs.Prelude.{◌≡◌, ◌==◌, nat_lt, OnErr, Ok};
-ghost use Rattle.tcs_terms.specs.Words.{words_of, begins, after};
+ghost use Rattle.text_words.specs.Words.{words_of, begins, after};
 ghost use Rattle.schedule_text.specs.Words.{Gives, Tells};
 ghost use Rattle.schedule_text.specs.Events.{verb_of};
 ghost use Rattle.schedule_text.specs.Header.{Head};
 ghost use Rattle.schedule_text.specs.Schedules.{Progress, at_start, head_item, header_line_at, end_line_at, counted_event_at, verb_line_at, first_verb, event_line_at, line_at, got_before_end, got_after_end, is_ended, line_reading};
 
-use crate::cursor::Words;
 use crate::event_lines::event;
 use crate::faults::{LineFault, bad};
 use crate::header::Header;
@@ -17,7 +16,8 @@ use crate::verbs::{Verb, verb_of};
 use crate::word_readers::end;
 use std::alloc::Global;
 use std::marker::Model;
-use tcs_terms::{Event, Reason, Setup};
+use tcs_terms::{Event, Setup};
+use text_words::{Reason, Words};
 
 /// What a line of a schedule is.
 #[derive(Debug, Drop)]

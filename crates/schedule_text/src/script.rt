@@ -1,10 +1,9 @@
 //! Reads a script, line by line.
 ghost use Rattle.std.specs.Prelude.{◌≡◌, ◌+◌, ◌<◌, ◌≤◌, nat_lt, IfOk};
-ghost use Rattle.tcs_terms.specs.Words.{words_of, begins, after};
+ghost use Rattle.text_words.specs.Words.{words_of, begins, after};
 ghost use Rattle.schedule_text.specs.Words.{Gives, Tells};
 ghost use Rattle.schedule_text.specs.Scripts.{ScriptProgress, script_start, only_of, script_header_at, script_end_at, turns_at, cluster_settle_at, node_settle_at, counted_settle_at, settle_at, script_event_at, script_verb_at, script_body_at, script_line_at, script_before_end, script_after_end, script_reading};
 
-use crate::cursor::Words;
 use crate::event_lines::event;
 use crate::faults::{LineFault, bad};
 use crate::header::Header;
@@ -16,7 +15,8 @@ use crate::verbs::Verb;
 use crate::word_readers::{between, end, number};
 use std::alloc::Global;
 use std::marker::Model;
-use tcs_terms::{Event, NodeId, Reason, Setup};
+use tcs_terms::{Event, NodeId, Setup};
+use text_words::{Reason, Words};
 
 /// What a script is for.
 #[derive(Clone, Copy, Debug, PartialEq, Eq)]

@@ -1,14 +1,14 @@
 //! The reader of a transaction: the node that made it, a dot, its number there.
 ghost use Rattle.std.specs.Prelude.{◌≡◌, ◌≤◌, ◌==◌, length, position};
 ghost use Rattle.tcs_terms.specs.declared.limits.TheConstants.{MAX_NODES};
-ghost use Rattle.tcs_terms.specs.PayloadWords.{is_numeral, number_in};
+ghost use Rattle.text_words.specs.PayloadWords.{is_numeral, number_in};
 ghost use Rattle.schedule_text.specs.Words.{Gives, Tells, txn_numbers, txn_parts, txn_in, txn_at};
 
-use crate::cursor::Words;
 use crate::faults::{LineFault, bad};
 use crate::word_readers::has_node;
 use tcs_terms::limits::MAX_SEQUENCE;
-use tcs_terms::{NodeId, Reason, ShardId, TxId, is_numeral, read_number};
+use tcs_terms::{NodeId, ShardId, TxId};
+use text_words::{Reason, Words, is_numeral, read_number};
 
 /// The numbers are in range.
 fn txn_of(nodes: &[ShardId], home: Option<u64>, seq: Option<u64>) -> Result<TxId, LineFault>

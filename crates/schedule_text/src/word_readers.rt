@@ -1,60 +1,36 @@
 //! Readers of one word: each takes it from the words that are left, and gives its value.
 ghost use Rattle.std.specs.Prelude.{◌≡◌, ◌+◌, ◌≤◌, ◌==◌, ◌∷◌, length, IsTrue, ◌||◌, IfOk};
-ghost use Rattle.std.specs.List.{list_all};
 ghost use Rattle.tcs_terms.specs.declared.limits.TheConstants.{MAX_NODES};
-ghost use Rattle.tcs_terms.specs.PayloadWords.{is_printable, payload_at};
+ghost use Rattle.text_words.specs.PayloadWords.{payload_at};
 ghost use Rattle.tcs_terms.specs.Setups.{has_node, is_node_of};
 ghost use Rattle.schedule_text.specs.Words.{Gives, Tells, Fails, fixed_at, end_at, number_at, between_at, is_for, caller_at, node_of_at, name_at, payload_words_at, next_node_at};
 
-use crate::cursor::Words;
 use crate::faults::{LineFault, bad};
 use std::alloc::Global;
-use tcs_terms::{
-    Name, NameFault, NodeId, Payload, Reason, ShardId, WordFault, read_number, read_payload,
+use tcs_terms::{Name, NodeId, Payload, ShardId};
+use text_words::{
+    Reason, WordFault, Words, all_read, fixed_word, name_word, number_word, read_payload,
 };
 
 /// A word that is fixed.
 pub(crate) fn fixed(word: &[u8], words: &mut Words) -> Result<(), LineFault>
     ensures { Tells (λ x. x) result words.new (fixed_at word.now words.old) }
 {
-    if !words.begins(word) {
-        return bad(Reason::Word);
-    }
-    words.skip();
-    Ok(())
+    Ok(fixed_word(word, words)?)
 }
 
 /// No word may be left over.
 pub(crate) fn end(words: &mut Words) -> Result<(), LineFault>
     ensures { Tells (λ x. x) result words.new (end_at words.old) }
 {
-    if !words.is_empty() {
-        return bad(Reason::Word);
-    }
-    Ok(())
-}
-
-fn are_printable(word: &[u8]) -> bool
-    ensures { result ≡ list_all is_printable word.now }
-{
-    word.iter().all(|byte| 32 <= *byte && *byte <= 126)
+    Ok(all_read(words)?)
 }
 
 /// A number.
-#[tactic(auto, unfolding(tcs_terms::specs::PayloadWords::number_word))]
 pub(crate) fn number(words: &mut Words) -> Result<u64, LineFault>
     ensures { Tells (λ n. n) result words.new (number_at words.old) }
 {
-    let Some(word) = words.take() else {
-        return bad(Reason::Word);
-    };
-    if let Some(number) = read_number(word) {
-        return Ok(number);
-    }
-    if word.is_empty() || !are_printable(word) {
-        return bad(Reason::Word);
-    }
-    bad(Reason::Number)
+    Ok(number_word(words)?)
 }
 
 /// A number from the first to the last one.
@@ -147,22 +123,14 @@ pub(crate) fn next_node(
 }
 
 /// A name.
-#[tactic(auto, unfolding(tcs_terms::specs::PayloadWords::name_word))]
 pub(crate) fn name(alloc: Global, words: &mut Words) -> Result<Name, LineFault>
     ensures { Tells (λ n. n) result words.new (name_at words.old) }
 {
-    let Some(word) = words.take() else {
-        return bad(Reason::Word);
-    };
-    match Name::build(alloc, word) {
-        Ok(name) => Ok(name),
-        Err(NameFault::Bad(_)) => bad(Reason::Word),
-        Err(NameFault::OutOfMemory) => Err(LineFault::OutOfMemory),
-    }
+    Ok(name_word(alloc, b"", words)?)
 }
 
 /// A payload, which is all that is left.
-#[tactic(auto, unfolding(tcs_terms::specs::PayloadWords::payload_at))]
+#[tactic(auto, unfolding(text_words::specs::PayloadWords::payload_at))]
 pub(crate) fn payload(alloc: Global, version: u8, words: &Words) -> Result<Payload, LineFault>
     requires { IsTrue ((version == 1) || (version == 2)) }
     ensures { Gives (λ p. p) result (payload_words_at version words.now) }

@@ -1,6 +1,6 @@
 -- What the program says of how it ended.
 use Rattle.std.specs.Prelude.{ℕ, List, ◌++◌, codes, decimal}
-use Rattle.tcs_terms.specs.Words.{reason_text}
+use Rattle.text_words.specs.Words.{reason_text}
 use Rattle.replay_core.specs.declared.stops.ReplayStop.{ReplayStop}
 use Rattle.replay_core.specs.declared.stops.ReplayStop.TheVariants as stops
 use Rattle.tcs_run.specs.declared.status.Status.{Status}

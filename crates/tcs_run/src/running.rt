@@ -2,7 +2,7 @@
 ghost use Rattle.std.specs.Prelude.{◌≡◌, ◌≤◌, ◌⊎◌, ℕ, List, Some, IsTrue};
 ghost use Rattle.tcs_io.specs.Faults.{Rose};
 ghost use Rattle.tcs_terms.specs.declared.inputs.Event.{Event};
-ghost use Rattle.tcs_terms.specs.declared.words.Reason.{Reason};
+ghost use Rattle.text_words.specs.declared.words.Reason.{Reason};
 ghost use Rattle.tcs_terms.specs.Setups.{Deployment};
 ghost use Rattle.schedule_text.specs.declared.reader.LineItem.{LineItem};
 ghost use Rattle.schedule_text.specs.Bytes.{IsText, FirstBad};

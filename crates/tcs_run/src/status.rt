@@ -4,7 +4,7 @@ ghost use Rattle.tcs_run.specs.Status.{exit_number};
 
 use replay_core::ReplayStop;
 use std::fmt::{self, Display, Formatter};
-use tcs_terms::Reason;
+use text_words::Reason;
 
 /// How a run of the program ended. The program exits with its number, and its text goes to standard error where the number
 /// is above 1.

@@ -3,7 +3,7 @@ use std::alloc::AllocError;
 use std::io::{self, Write};
 use std::test::Fail;
 use tcs_io::{MemSink, MemSource, StdSink, write_all};
-use tcs_terms::Reason;
+use text_words::Reason;
 
 /// Each status but a bad line, its exit number, and its text.
 const STATUSES: [(Status, u8, &str); 6] = [

@@ -4,16 +4,9 @@ pub mod NameLaws
 pub mod PayloadLaws
 pub mod PayloadRefusals
 pub mod PlaceLaws
-pub mod NumberLaws
 pub mod Appending
-pub mod ValueLaws
-pub mod WordLaws
-pub mod PartLoops
-pub mod WordReadings
 pub mod RuleReadings
 pub mod RowLaws
 pub mod SetupLaws
 pub mod RunLaws
 pub mod ShardLaws
-pub mod PayloadReadings
-pub mod PayloadSpelling

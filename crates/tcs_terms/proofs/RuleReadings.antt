@@ -5,7 +5,7 @@ use Rattle.std.specs.Cmp.Lexicographic.{bytes_decides}
 use Rattle.tcs_terms.specs.declared.setups.Rule.{Rule}
 use Rattle.tcs_terms.specs.declared.setups.Rule.TheVariants as rules
 use Rattle.tcs_terms.specs.Payloads.{same_name}
-use Rattle.tcs_terms.specs.Texts.{rule_text, rule_in}
+use Rattle.tcs_terms.specs.Rules.{rule_text, rule_in}
 
 -- a word that names one of several things is that one's word, or names another one
 pub named : {A : Type 0} (b : Bool) (w word : List ℕ) (x y : A) (more : Option A) → same_name w word ≡ b → cond b (Some x) more ≡ Some y → ((w ≡ word) × (x ≡ y)) ⊎ (more ≡ Some y)

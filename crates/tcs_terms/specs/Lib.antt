@@ -9,15 +9,12 @@ pub mod Preparations
 pub mod Logs
 pub mod RowFaults
 pub mod Setups
+pub mod Rules
 pub mod SetupFaults
 pub mod Messages
 pub mod Kinds
 pub mod Versions
 pub mod Events
 pub mod Runs
-pub mod PayloadText
-pub mod Words
-pub mod Texts
 pub mod Appends
-pub mod PayloadWords
 pub mod Shards

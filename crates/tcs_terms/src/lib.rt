@@ -1,5 +1,5 @@
 //! The terms that every layer of the service speaks in: objects, payloads, votes, rows, configurations,
-//! messages, events and setups, their limits, and the text of a payload.
+//! messages, events and setups, and their limits.
 #![tactic(auto)]
 
 mod configurations;
@@ -19,21 +19,16 @@ mod order;
 mod payload_faults;
 mod payloads;
 mod places;
-mod printing;
 mod ranges;
-mod reading;
 mod row_faults;
+mod rules;
 mod runs;
 mod setup_faults;
 mod setups;
 mod shard_sets;
 mod shards;
-mod texts;
 mod versions;
 mod votes;
-mod word_list;
-mod word_readers;
-mod words;
 
 pub use configurations::{Config, Wanted};
 pub use faults::{BadConfig, BadPayload, BadSetup, BadShards, NameFault, RowsFault, ValueFault};
@@ -45,16 +40,13 @@ pub use memory::OutOfMemory;
 pub use messages::{Message, Outgoing, Why};
 pub use objects::{Name, Value, is_name_byte, strange_byte};
 pub use order::{name_before, same_name};
+pub use payload_faults::{reads_name, reads_nothing};
 pub use payloads::{Payload, RangePart, ReadPart, WritePart};
 pub use places::is_among;
-pub use printing::print_payload;
-pub use reading::read_payload;
 pub use runs::{events_come_one_by_one, what_fits_is_in_range};
 pub use setup_faults::{has_node, is_node_of};
 pub use setups::{Rule, Setup};
 pub use shard_sets::ShardSet;
 pub use shards::shard_of;
-pub use texts::{is_numeral, print_number, print_txn, read_number};
 pub use versions::Version;
 pub use votes::{Cause, Decision, Vote};
-pub use words::{Reason, WordFault};

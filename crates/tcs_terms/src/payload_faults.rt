@@ -9,7 +9,7 @@ use crate::order::{name_before, same_name};
 use crate::payloads::{RangePart, ReadPart, WritePart};
 
 /// Whether nothing is read.
-pub(crate) fn reads_nothing(reads: &[ReadPart], ranges: &[RangePart]) -> bool
+pub fn reads_nothing(reads: &[ReadPart], ranges: &[RangePart]) -> bool
     ensures { result ≡ ((length reads.now == 0) && (length ranges.now == 0)) }
 {
     reads.is_empty() && ranges.is_empty()

@@ -2,7 +2,8 @@
 
 use anyhow::Error;
 use std::alloc::Global;
-use tcs_terms::{Payload, read_payload};
+use tcs_terms::Payload;
+use text_words::read_payload;
 
 /// One read and one write, of a name of one byte and a value of one byte.
 pub fn smallest(alloc: Global) -> Result<Payload, Error> {

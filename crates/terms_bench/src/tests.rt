@@ -3,10 +3,8 @@
 
 use std::alloc::Global;
 use std::test::Fail;
-use tcs_terms::{
-    Config, Event, Input, Kind, Rule, Setup, TxId, Wanted, is_among, print_payload, print_txn,
-    read_payload,
-};
+use tcs_terms::{Config, Event, Input, Kind, Rule, Setup, TxId, Wanted, is_among};
+use text_words::{print_payload, put_txn, read_payload};
 
 /// A payload's text as it is printed again after a copy.
 fn again(alloc: Global, text: &[u8]) -> Result<Vec<u8>, Fail> {
@@ -26,7 +24,7 @@ fn texts(rt: HostRuntime) -> Result<(), Fail> {
     };
     assert_eq!(rt; format!(in alloc; "{fault}")?.as_str(), "word 7: order");
     let mut txn = Vec::new(alloc);
-    print_txn(TxId { home: 3, seq: 12 }, &mut txn)?;
+    put_txn(&mut txn, TxId { home: 3, seq: 12 })?;
     assert_eq!(rt; txn.as_slice(), b"3.12".as_slice());
     assert_eq!(rt; Kind::Outcome.word(), "OUTCOME");
     Ok(())

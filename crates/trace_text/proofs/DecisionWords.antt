@@ -5,7 +5,7 @@ use Rattle.tcs_terms.specs.declared.votes.Cause.{Cause}
 use Rattle.tcs_terms.specs.declared.votes.Cause.TheVariants as causes
 use Rattle.tcs_terms.specs.declared.votes.Decision.{Decision}
 use Rattle.tcs_terms.specs.declared.votes.Decision.TheVariants as decisions
-use Rattle.tcs_terms.specs.Texts.{txn_text}
+use Rattle.text_words.specs.Texts.{txn_text}
 use Rattle.trace_text.specs.Texts.{cause_text, decision_text}
 use Rattle.trace_text.specs.Lines.{IsCause, IsDecision}
 use Rattle.trace_text.specs.Words.{cut, is_word, number_within, txn_in}

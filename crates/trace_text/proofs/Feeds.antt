@@ -22,11 +22,12 @@ use Rattle.tcs_terms.specs.declared.votes.Decision.TheVariants as decisions
 use Rattle.tcs_terms.specs.Messages.{is_txn}
 use Rattle.tcs_terms.specs.Objects.{IsValue}
 use Rattle.tcs_terms.specs.Payloads.{Accesses, IsReadPart, IsRangePart, IsWritePart, IsPayload}
-use Rattle.tcs_terms.specs.PayloadText.{value_text, read_text, range_text, write_text, payload_text}
-use Rattle.tcs_terms.specs.PayloadWords.{is_lower_digit}
+use Rattle.text_words.specs.PayloadText.{value_text, read_text, range_text, write_text, payload_text}
+use Rattle.text_words.specs.HexWords.{is_lower_digit}
 use Rattle.tcs_terms.proofs.BoolLaws.{both, left_of, right_of, not_false}
-use Rattle.tcs_terms.proofs.ValueLaws.{bytes_everywhere, encoded_is_lower}
-use Rattle.tcs_terms.specs.Texts.{rule_text, txn_text}
+use Rattle.text_words.proofs.HexLaws.{bytes_everywhere, encoded_is_lower}
+use Rattle.text_words.specs.Texts.{txn_text}
+use Rattle.tcs_terms.specs.Rules.{rule_text}
 use Rattle.trace_text.specs.Texts.{result_text, cause_text, decision_text, note_text, kind_text, order_text}
 use Rattle.trace_text.specs.Lines.{Line, HeadLine, EventLine, NoteLine, MessageLine, OrderLine, EndLine, line_text, Standing, IsStanding, MayStand, IsResult, IsCause, IsDecision, IsNote}
 use Rattle.trace_text.proofs.Cuts.{lacks}

@@ -19,12 +19,13 @@ use Rattle.wire_frame.proofs.FrameLaws.{kind_is, frame_takes, frame_again}
 use Rattle.trace_text.specs.Texts.{name_of, kind_text}
 use Rattle.trace_text.specs.Versions.{message_fits}
 use Rattle.trace_text.specs.Lines.{IsFrame}
-use Rattle.trace_text.specs.Words.{cut, is_word, bytes_in}
+use Rattle.trace_text.specs.Words.{cut, is_word}
+use Rattle.text_words.specs.HexWords.{bytes_in}
 use Rattle.trace_text.specs.Readings.{frame_in}
 use Rattle.trace_text.proofs.Steps.{bind_some, kept}
 use Rattle.trace_text.proofs.Cuts.{lacks, cut_takes, cut_again}
 use Rattle.trace_text.proofs.PlainWords.{word_is, weaker}
-use Rattle.trace_text.proofs.HexWords.{bytes_takes, bytes_again}
+use Rattle.text_words.proofs.HexLaws.{bytes_takes, bytes_again}
 
 -- the text of a frame behind the name of its kind
 abbrev pub frame_text : List ℕ → List ℕ

@@ -1,8 +1,6 @@
 pub mod Steps
 pub mod Cuts
 pub mod WordLists
-pub mod ValueWords
-pub mod HexWords
 pub mod PlainWords
 pub mod ResultWords
 pub mod DecisionWords

@@ -8,9 +8,9 @@ use Rattle.tcs_terms.specs.declared.ids.TxId.{TxId}
 use Rattle.tcs_terms.specs.declared.inputs.Note.{Note}
 use Rattle.tcs_terms.specs.declared.inputs.Result1.{Result1}
 use Rattle.tcs_terms.specs.declared.setups.Rule.{Rule}
-use Rattle.tcs_terms.specs.PayloadWords.{number_in}
+use Rattle.text_words.specs.PayloadWords.{number_in}
 use Rattle.tcs_terms.proofs.BoolLaws.{both, left_of, right_of}
-use Rattle.tcs_terms.specs.Texts.{rule_text, rule_in}
+use Rattle.tcs_terms.specs.Rules.{rule_text, rule_in}
 use Rattle.trace_text.specs.Texts.{result_text, note_text, order_text}
 use Rattle.trace_text.specs.Lines.{Line, HeadLine, EventLine, NoteLine, MessageLine, OrderLine, EndLine, line_text, Standing, IsStanding, MayStand}
 use Rattle.trace_text.specs.Words.{cut, is_word, number_within, next_number}
@@ -21,7 +21,7 @@ use Rattle.trace_text.specs.Stages.{allows, form_of}
 use Rattle.trace_text.proofs.Steps.{bind_some, some_is, kept, taken}
 use Rattle.trace_text.proofs.Cuts.{lacks, cut_takes, cut_again}
 use Rattle.trace_text.proofs.PlainWords.{word_is, decimal_lacks, rule_lacks, within_takes, within_again, small_within, next_takes, next_again}
-use Rattle.tcs_terms.proofs.WordReadings.{number_in_takes, number_in_again}
+use Rattle.text_words.proofs.WordReadings.{number_in_takes, number_in_again}
 use Rattle.tcs_terms.proofs.RuleReadings.{rule_named, word_names}
 use Rattle.trace_text.proofs.ResultWords.{result_takes, result_again}
 use Rattle.trace_text.proofs.NoteWords.{note_takes, note_again}

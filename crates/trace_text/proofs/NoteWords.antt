@@ -7,23 +7,26 @@ use Rattle.tcs_terms.specs.declared.inputs.Note.{Note}
 use Rattle.tcs_terms.specs.declared.inputs.Note.TheVariants as notes
 use Rattle.tcs_terms.specs.declared.votes.Decision.{Decision}
 use Rattle.tcs_terms.specs.Payloads.{Accesses, IsPayload}
-use Rattle.tcs_terms.specs.PayloadText.{payload_text, value_text}
-use Rattle.tcs_terms.specs.PayloadWords.{Misfit, FitsVersion, number_in, value_in, payload_at, numbered, reading}
-use Rattle.tcs_terms.specs.Words.{words_of}
-use Rattle.tcs_terms.proofs.PayloadReadings.{payload_takes}
-use Rattle.tcs_terms.proofs.PayloadSpelling.{text_of_words, text_read_again}
-use Rattle.tcs_terms.proofs.ValueLaws.{value_in_takes, value_in_again}
-use Rattle.tcs_terms.specs.Texts.{txn_text}
+use Rattle.text_words.specs.PayloadText.{payload_text, value_text}
+use Rattle.text_words.specs.PayloadWords.{Misfit, FitsVersion, number_in, payload_at, numbered, reading}
+use Rattle.text_words.specs.HexWords.{value_in}
+use Rattle.text_words.specs.Words.{words_of}
+use Rattle.text_words.proofs.PayloadReadings.{payload_takes}
+use Rattle.text_words.proofs.PayloadSpelling.{text_of_words, text_read_again}
+use Rattle.text_words.proofs.ValueLaws.{value_in_takes, value_in_again}
+use Rattle.text_words.specs.Texts.{txn_text}
 use Rattle.trace_text.specs.Texts.{decision_text, note_text}
 use Rattle.trace_text.specs.declared.stages.LineForm.TheVariants as forms
 use Rattle.trace_text.specs.Stages.{allows}
 use Rattle.trace_text.specs.Lines.{IsNote, Standing}
-use Rattle.trace_text.specs.Words.{cut, is_word, txn_in, name_in}
+use Rattle.trace_text.specs.Words.{cut, is_word, txn_in}
+use Rattle.text_words.specs.PayloadWords.{name_in}
 use Rattle.trace_text.specs.Readings.{begin_in, take_in, read_in, decide_in, decision_in, note_in, note_of, line_of}
 use Rattle.trace_text.proofs.Steps.{bind_some, some_is, either}
 use Rattle.trace_text.proofs.Cuts.{lacks, cut_takes, cut_again}
-use Rattle.tcs_terms.proofs.WordReadings.{number_in_takes, number_in_again}
-use Rattle.trace_text.proofs.PlainWords.{word_is, decimal_lacks, name_lacks, txn_takes, txn_again, txn_lacks, name_takes, name_again}
+use Rattle.text_words.proofs.WordReadings.{number_in_takes, number_in_again}
+use Rattle.trace_text.proofs.PlainWords.{word_is, decimal_lacks, name_lacks, txn_takes, txn_again, txn_lacks}
+use Rattle.text_words.proofs.WordReadings.{name_in_takes, name_in_again}
 use Rattle.trace_text.proofs.DecisionWords.{decision_takes, decision_again}
 
 -- ---- payloads
@@ -93,7 +96,7 @@ read_takes version shards text n h =
     let value = bind_some (value_in others.0.1) _ n seen.2 in
     let c = cut_takes 32 text words.0 words.1 in
     let o = cut_takes 32 words.0.1 others.0 others.1 in
-    let m = name_takes words.0.0 name.0 name.1 in
+    let m = name_in_takes words.0.0 name.0 name.1 in
     let s = number_in_takes others.0.0 seen.0 seen.1 in
     let v = value_in_takes others.0.1 value.0 value.1 in
     subst (Read version shards (codes "read") text) (some_is (notes.ReadValue name.0 seen.0 value.0) n value.2) (record {
@@ -171,7 +174,7 @@ note_again version shards (notes.ReadValue name seen value) few h = record {
   again = rw (
     cut_again 32 name (decimal seen ++ 32 ∷ value_text value) (name_lacks 32 name (omega arith) h.0),
     cut_again 32 (decimal seen) (value_text value) (decimal_lacks 32 seen (omega arith) h.1),
-    name_again name h.0,
+    name_in_again name h.0,
     number_in_again seen h.1,
     value_in_again value h.2,
   ) refl;

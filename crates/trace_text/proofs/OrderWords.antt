@@ -6,9 +6,9 @@ use Rattle.std.proofs.lemmas.List.{append-nil}
 use Rattle.std.proofs.lemmas.List.Splits.{join_with_byte-slice_split}
 use Rattle.tcs_terms.specs.declared.ids.TxId.{TxId}
 use Rattle.tcs_terms.specs.Messages.{is_txn}
-use Rattle.tcs_terms.specs.Words.{words_of}
+use Rattle.text_words.specs.Words.{words_of}
 use Rattle.tcs_terms.proofs.BoolLaws.{both, left_of, right_of}
-use Rattle.tcs_terms.specs.Texts.{txn_text}
+use Rattle.text_words.specs.Texts.{txn_text}
 use Rattle.trace_text.specs.Texts.{order_text}
 use Rattle.trace_text.specs.Words.{cut, is_word, txn_in, each_txn}
 use Rattle.trace_text.specs.Readings.{order_in}

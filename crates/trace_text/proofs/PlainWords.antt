@@ -12,18 +12,20 @@ use Rattle.tcs_terms.specs.declared.limits.TheConstants.{MAX_NODES, MAX_SEQUENCE
 use Rattle.tcs_terms.specs.declared.ids.TxId.{TxId}
 use Rattle.tcs_terms.specs.declared.setups.Rule.{Rule}
 use Rattle.tcs_terms.specs.declared.setups.Rule.TheVariants.{Serial, Snapshot, Commute}
-use Rattle.tcs_terms.specs.declared.words.Reason.TheVariants as reasons
+use Rattle.text_words.specs.declared.words.Reason.TheVariants as reasons
 use Rattle.tcs_terms.specs.Objects.{is_name_byte, IsName}
 use Rattle.tcs_terms.specs.ObjectFaults.{name_fault}
 use Rattle.tcs_terms.specs.Places.{is_node}
 use Rattle.tcs_terms.specs.Messages.{is_txn}
-use Rattle.tcs_terms.specs.PayloadWords.{misfit, is_printable, number_in, number_or, number_word}
+use Rattle.text_words.specs.PayloadWords.{misfit, is_printable, number_in, number_or, number_word}
 use Rattle.tcs_terms.proofs.BoolLaws.{both, left_of, right_of}
 use Rattle.tcs_terms.proofs.NameLaws.{is_name_without_fault, no_fault_of_a_name}
-use Rattle.tcs_terms.specs.Texts.{txn_text, rule_text}
-use Rattle.tcs_terms.proofs.NumberLaws.{numerals}
-use Rattle.tcs_terms.proofs.WordReadings.{number_in_takes, number_in_again}
-use Rattle.trace_text.specs.Words.{cut, is_word, number_within, next_number, txn_in, name_in}
+use Rattle.text_words.specs.Texts.{txn_text}
+use Rattle.tcs_terms.specs.Rules.{rule_text}
+use Rattle.text_words.proofs.NumberLaws.{numerals}
+use Rattle.text_words.proofs.WordReadings.{number_in_takes, number_in_again}
+use Rattle.trace_text.specs.Words.{cut, is_word, number_within, next_number, txn_in}
+use Rattle.text_words.specs.PayloadWords.{name_in}
 use Rattle.trace_text.proofs.Steps.{bind_some, some_is, kept, either}
 use Rattle.trace_text.proofs.Cuts.{lacks, cut_takes, cut_again}
 
@@ -122,18 +124,3 @@ pub rule_lacks : (byte : ℕ) (r : Rule) → byte < 48 → lacks byte (rule_text
 rule_lacks byte Serial low = name_bytes_lack byte (codes "serial") low refl
 rule_lacks byte Snapshot low = name_bytes_lack byte (codes "snapshot") low refl
 rule_lacks byte Commute low = name_bytes_lack byte (codes "commute") low refl
-
--- ---- names
-
-pub name_takes : (text name : List ℕ) → name_in text ≡ Some name → (text ≡ name) × IsName name
-unfolding name_in
-name_takes text name h =
-    let k = kept (is_none (name_fault text)) text name h in
-    subst (λ (n : List ℕ). (text ≡ n) × IsName n) k.1 (refl, is_name_without_fault text (none_is (name_fault text) k.0)) where
-      none_is : (o : Option ℕ) → is_none o ≡ true → o ≡ None
-      none_is None e = refl
-      none_is (Some n) e = absurd cc
-
-pub name_again : (name : List ℕ) → IsName name → name_in name ≡ Some name
-unfolding name_in
-name_again name h = rw (no_fault_of_a_name name h) refl

@@ -4,7 +4,7 @@ use Rattle.std.specs.Prelude.{◌==◌}
 use Rattle.std.specs.Option.{option_map}
 use Rattle.std.proofs.lemmas.List.Splits.{slice_split_at, slice_split_none}
 use Rattle.tcs_terms.specs.declared.ids.TxId.{TxId}
-use Rattle.tcs_terms.specs.Words.{words_of}
+use Rattle.text_words.specs.Words.{words_of}
 use Rattle.trace_text.specs.Words.{◌>>=◌, cut, txn_in, each_txn}
 use Rattle.trace_text.proofs.Cuts.{lacks, lacking_at, cut_takes, uncut_lacks}
 

@@ -18,7 +18,7 @@ use Rattle.tcs_terms.specs.declared.messages.Message.{Message}
 use Rattle.tcs_terms.specs.declared.setups.Rule.{Rule}
 use Rattle.tcs_terms.specs.Objects.{IsName, IsValue}
 use Rattle.tcs_terms.specs.Payloads.{IsPayload}
-use Rattle.tcs_terms.specs.PayloadWords.{FitsVersion}
+use Rattle.text_words.specs.PayloadWords.{FitsVersion}
 use Rattle.tcs_terms.specs.Places.{is_shard}
 use Rattle.tcs_terms.specs.Messages.{is_txn, InRange}
 use Rattle.wire_frame.specs.Spelling.{spell}
@@ -27,7 +27,7 @@ use Rattle.trace_text.specs.declared.items.TraceItem.TheVariants as items
 use Rattle.trace_text.specs.declared.stages.Stage.{Stage}
 use Rattle.trace_text.specs.declared.stages.LineForm.TheVariants as forms
 use Rattle.trace_text.specs.declared.stages.Stage.TheVariants.{Start, Begun, Event, Messages, Ordered, Ended}
-use Rattle.tcs_terms.specs.Texts.{rule_text}
+use Rattle.tcs_terms.specs.Rules.{rule_text}
 use Rattle.trace_text.specs.Texts.{result_text, note_text, kind_text, order_text}
 use Rattle.trace_text.specs.Versions.{message_fits}
 use Rattle.trace_text.specs.Stages.{allows}

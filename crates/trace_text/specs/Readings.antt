@@ -14,19 +14,22 @@ use Rattle.tcs_terms.specs.declared.inputs.Result1.TheVariants as results
 use Rattle.tcs_terms.specs.declared.inputs.Note.{Note}
 use Rattle.tcs_terms.specs.declared.inputs.Note.TheVariants as notes
 use Rattle.tcs_terms.specs.Kinds.{kind_of, kind_word}
-use Rattle.tcs_terms.specs.PayloadWords.{number_in, value_in, reading}
-use Rattle.tcs_terms.specs.Words.{words_of}
+use Rattle.text_words.specs.PayloadWords.{number_in, reading}
+use Rattle.text_words.specs.HexWords.{value_in}
+use Rattle.text_words.specs.Words.{words_of}
 use Rattle.wire_frame.specs.Frames.{read_frame}
 use Rattle.trace_text.specs.declared.items.TraceItem.{TraceItem}
 use Rattle.trace_text.specs.declared.items.TraceFault.{TraceFault}
 use Rattle.trace_text.specs.declared.items.TraceFault.TheVariants.{Bad, OutOfMemory}
 use Rattle.trace_text.specs.Versions.{message_fits}
 use Rattle.trace_text.specs.Lines.{Line, HeadLine, EventLine, NoteLine, MessageLine, OrderLine, EndLine, line_text, Standing, MayStand, after, item_of}
-use Rattle.tcs_terms.specs.Texts.{rule_in}
+use Rattle.tcs_terms.specs.Rules.{rule_in}
 use Rattle.trace_text.specs.declared.stages.LineForm.{LineForm}
 use Rattle.trace_text.specs.declared.stages.LineForm.TheVariants as forms
 use Rattle.trace_text.specs.Stages.{form_of, allows}
-use Rattle.trace_text.specs.Words.{◌>>=◌, first_word, is_word, number_within, next_number, txn_in, name_in, bytes_in, each_txn}
+use Rattle.trace_text.specs.Words.{◌>>=◌, first_word, is_word, number_within, next_number, txn_in, each_txn}
+use Rattle.text_words.specs.PayloadWords.{name_in}
+use Rattle.text_words.specs.HexWords.{bytes_in}
 
 -- ---- results
 

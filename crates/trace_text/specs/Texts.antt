@@ -14,8 +14,8 @@ use Rattle.tcs_terms.specs.declared.inputs.Note.{Note}
 use Rattle.tcs_terms.specs.declared.inputs.Note.TheVariants as notes
 use Rattle.tcs_terms.specs.declared.kinds.Kind.{Kind}
 use Rattle.tcs_terms.specs.Kinds.{kind_numbered, kind_word}
-use Rattle.tcs_terms.specs.PayloadText.{payload_text, value_text}
-use Rattle.tcs_terms.specs.Texts.{txn_text}
+use Rattle.text_words.specs.PayloadText.{payload_text, value_text}
+use Rattle.text_words.specs.Texts.{txn_text}
 
 abbrev pub handled_text : Handled → List ℕ
 handled_text handled.Acted = codes "acted"

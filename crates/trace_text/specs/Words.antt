@@ -1,13 +1,9 @@
 -- How the words of a line are read.
-use Rattle.std.specs.Prelude.{ℕ, ◌+◌, Bool, ◌&&◌, ◌==◌, nat_le, if◌then◌else◌, is_none, List, [], ◌∷◌, take, drop, position, codes, Option, Some, None}
-use Rattle.std.specs.List.{list_all}
-use Rattle.std.specs.Result.{result_ok}
-use Rattle.hex.specs.Hex.{decode_of}
+use Rattle.std.specs.Prelude.{ℕ, ◌+◌, Bool, ◌&&◌, ◌==◌, nat_le, if◌then◌else◌, List, [], ◌∷◌, take, drop, position, codes, Option, Some, None}
 use Rattle.tcs_terms.specs.declared.limits.TheConstants.{MAX_NODES, MAX_SEQUENCE}
 use Rattle.tcs_terms.specs.declared.ids.TxId.{TxId}
-use Rattle.tcs_terms.specs.ObjectFaults.{name_fault}
 use Rattle.tcs_terms.specs.Payloads.{same_name}
-use Rattle.tcs_terms.specs.PayloadWords.{number_in, is_lower_digit}
+use Rattle.text_words.specs.PayloadWords.{number_in}
 
 -- the next step of reading, if this one gave something
 infixl 10 ◌>>=◌
@@ -50,14 +46,6 @@ txn_in text = do
   home ← number_within 1 MAX_NODES parts.0
   seq ← number_within 1 MAX_SEQUENCE parts.1
   Some (record { home = home; seq = seq })
-
--- a name
-unfoldable pub name_in : List ℕ → Option (List ℕ)
-name_in text = if is_none (name_fault text) then Some text else None
-
--- bytes in hex, in lower case
-unfoldable pub bytes_in : List ℕ → Option (List ℕ)
-bytes_in text = if list_all is_lower_digit text then result_ok (decode_of text) else None
 
 -- each of the words as a transaction
 unfoldable pub each_txn : List (List ℕ) → Option (List TxId)

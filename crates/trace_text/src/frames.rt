@@ -9,9 +9,10 @@ ghost use Rattle.trace_text.specs.Words.{is_word};
 ghost use Rattle.trace_text.specs.Readings.{frame_in};
 
 use crate::versions::message_fits;
-use crate::words::{bytes_in, cut};
+use crate::words::cut;
 use std::alloc::Global;
 use tcs_terms::{Message, OutOfMemory};
+use text_words::bytes_in;
 use wire_frame::{DecodeFault, decode};
 
 /// The message of a frame.

@@ -1,13 +1,14 @@
 //! The words of notes.
 ghost use Rattle.std.specs.Prelude.{◌≡◌, ◌==◌, ◌||◌, IsTrue, IfOk};
 ghost use Rattle.std.specs.Result.{result_ok};
-ghost use Rattle.tcs_terms.specs.PayloadWords.{reading};
+ghost use Rattle.text_words.specs.PayloadWords.{reading};
 ghost use Rattle.trace_text.specs.Readings.{begin_in, take_in, read_in, decide_in, note_in};
 
 use crate::decisions::decision_in;
-use crate::words::{cut, name_in, txn_in, value_in};
+use crate::words::{cut, txn_in};
 use std::alloc::Global;
-use tcs_terms::{Note, OutOfMemory, Payload, WordFault, read_number, read_payload};
+use tcs_terms::{Note, OutOfMemory, Payload};
+use text_words::{WordFault, name_in, read_number, read_payload, value_in};
 
 /// The payload that a text writes.
 fn payload_in(alloc: Global, text: &[u8], version: u8) -> Result<Option<Payload>, OutOfMemory>

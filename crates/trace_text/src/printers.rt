@@ -7,10 +7,9 @@ ghost use Rattle.tcs_terms.specs.Appends.{Begins};
 ghost use Rattle.trace_text.specs.Texts.{result_text, note_text, kind_text};
 ghost use Rattle.trace_text.specs.Lines.{HeadLine, EventLine, NoteLine, MessageLine, OrderLine, EndLine, printed};
 
-use crate::printing::{
-    put, put_decision, put_field, put_handled, put_hex, put_number, put_order, put_value,
-};
-use tcs_terms::{Kind, NodeId, Note, OutOfMemory, Result1, Setup, TxId, print_payload, print_txn};
+use crate::printing::{put_decision, put_field, put_handled, put_order};
+use tcs_terms::{Kind, NodeId, Note, OutOfMemory, Result1, Setup, TxId};
+use text_words::{print_payload, put, put_hex, put_number, put_txn, put_value};
 
 /// The first line: the version, the rule and the number of shards.
 pub fn print_head(setup: &Setup, out: &mut Vec<u8>) -> Result<(), OutOfMemory>
@@ -44,13 +43,13 @@ fn put_note(note: &Note, out: &mut Vec<u8>) -> Result<(), OutOfMemory>
     match note {
         Note::Begin { txn, payload } => {
             put(out, b"begin ")?;
-            print_txn(*txn, out)?;
+            put_txn(out, *txn)?;
             put(out, b" ")?;
             print_payload(payload, out)
         }
         Note::Take { txn } => {
             put(out, b"take ")?;
-            print_txn(*txn, out)
+            put_txn(out, *txn)
         }
         Note::ReadValue {
             name,
@@ -66,7 +65,7 @@ fn put_note(note: &Note, out: &mut Vec<u8>) -> Result<(), OutOfMemory>
         }
         Note::Decide { txn, decision } => {
             put(out, b"decide ")?;
-            print_txn(*txn, out)?;
+            put_txn(out, *txn)?;
             put(out, b" ")?;
             put_decision(out, *decision)
         }

@@ -1,29 +1,12 @@
 //! The parts of a trace's text, each appended to a buffer.
-ghost use Rattle.std.specs.Prelude.{◌≡◌, ◌++◌, ◌∷◌, [], codes, decimal, OnOk, OnErr};
+ghost use Rattle.std.specs.Prelude.{◌≡◌, ◌++◌, codes, decimal, OnOk, OnErr};
 ghost use Rattle.std.specs.List.{flat_map};
-ghost use Rattle.hex.specs.Hex.{encode_lower};
-ghost use Rattle.tcs_terms.specs.PayloadText.{value_text};
 ghost use Rattle.tcs_terms.specs.Appends.{Begins};
-ghost use Rattle.tcs_terms.specs.Texts.{txn_text};
+ghost use Rattle.text_words.specs.Texts.{txn_text};
 ghost use Rattle.trace_text.specs.Texts.{handled_text, cause_text, decision_text, order_text};
 
-use tcs_terms::{Cause, Decision, Handled, OutOfMemory, TxId, print_number, print_txn};
-
-#[tactic(auto, using(tcs_terms::proofs::Appending::begins_same))]
-pub(crate) fn put(out: &mut Vec<u8>, text: &[u8]) -> Result<(), OutOfMemory>
-    ensures ok { OnOk result (out.new.items ≡ out.old.items ++ text.now) }
-    ensures err { OnErr result (Begins out.old.items out.new.items) }
-{
-    Ok(out.extend_from_slice(text)?)
-}
-
-#[tactic(auto, using(tcs_terms::proofs::Appending::begins_same))]
-pub(crate) fn put_number(out: &mut Vec<u8>, number: u64) -> Result<(), OutOfMemory>
-    ensures ok { OnOk result (out.new.items ≡ out.old.items ++ decimal number) }
-    ensures err { OnErr result (Begins out.old.items out.new.items) }
-{
-    print_number(number, out)
-}
+use tcs_terms::{Cause, Decision, Handled, OutOfMemory, TxId};
+use text_words::{put, put_number, put_txn};
 
 pub(crate) fn put_handled(out: &mut Vec<u8>, handled: Handled) -> Result<(), OutOfMemory>
     ensures ok { OnOk result (out.new.items ≡ out.old.items ++ handled_text handled) }
@@ -50,7 +33,7 @@ fn put_cause(out: &mut Vec<u8>, cause: Cause) -> Result<(), OutOfMemory>
     match cause {
         Cause::Clash(txn) => {
             put(out, b"clash ")?;
-            print_txn(txn, out)
+            put_txn(out, txn)
         }
         Cause::Lost => put(out, b"lost"),
     }
@@ -71,46 +54,6 @@ pub(crate) fn put_decision(out: &mut Vec<u8>, decision: Decision) -> Result<(), 
     }
 }
 
-/// The two digits of a byte, the high four bits first.
-#[tactic(auto, unfolding(hex::specs::Hex::encode_with))]
-fn digits_of(byte: u8) -> [u8; 2]
-    ensures { result ≡ encode_lower (byte ∷ []) }
-{
-    let digits = b"0123456789abcdef";
-    [
-        digits[usize::from(byte / 16)],
-        digits[usize::from(byte % 16)],
-    ]
-}
-
-fn put_byte(out: &mut Vec<u8>, byte: u8) -> Result<(), OutOfMemory>
-    ensures ok { OnOk result (out.new.items ≡ out.old.items ++ encode_lower (byte ∷ [])) }
-    ensures err { OnErr result (Begins out.old.items out.new.items) }
-{
-    put(out, &digits_of(byte))
-}
-
-/// Lower-case hex.
-pub(crate) fn put_hex(out: &mut Vec<u8>, bytes: &[u8]) -> Result<(), OutOfMemory>
-    ensures ok { OnOk result (out.new.items ≡ out.old.items ++ encode_lower bytes.now) }
-    ensures err { OnErr result (Begins out.old.items out.new.items) }
-{
-    for byte in bytes {
-        put_byte(out, *byte)?;
-    }
-    Ok(())
-}
-
-pub(crate) fn put_value(out: &mut Vec<u8>, value: &[u8]) -> Result<(), OutOfMemory>
-    ensures ok { OnOk result (out.new.items ≡ out.old.items ++ value_text value.now) }
-    ensures err { OnErr result (Begins out.old.items out.new.items) }
-{
-    match value {
-        [] => put(out, b"-"),
-        [_, ..] => put_hex(out, value),
-    }
-}
-
 /// A space and a number.
 pub(crate) fn put_field(out: &mut Vec<u8>, number: u64) -> Result<(), OutOfMemory>
     ensures ok { OnOk result (out.new.items ≡ out.old.items ++ (codes " " ++ decimal number)) }
@@ -126,7 +69,7 @@ fn put_next(out: &mut Vec<u8>, txn: TxId) -> Result<(), OutOfMemory>
     ensures err { OnErr result (Begins out.old.items out.new.items) }
 {
     put(out, b" ")?;
-    print_txn(txn, out)
+    put_txn(out, txn)
 }
 
 fn put_more(out: &mut Vec<u8>, order: &[TxId]) -> Result<(), OutOfMemory>
@@ -146,7 +89,7 @@ pub(crate) fn put_order(out: &mut Vec<u8>, order: &[TxId]) -> Result<(), OutOfMe
     match order {
         [] => put(out, b"-"),
         [first, others @ ..] => {
-            print_txn(*first, out)?;
+            put_txn(out, *first)?;
             put_more(out, others)
         }
     }

@@ -14,7 +14,8 @@ use crate::stages::{LineForm, Stage};
 use crate::words::{cut, next_number, number_within, order_in};
 use std::alloc::Global;
 use std::marker::Model;
-use tcs_terms::{OutOfMemory, Rule, read_number};
+use tcs_terms::{OutOfMemory, Rule};
+use text_words::read_number;
 
 /// Reads a trace line by line. Seen as where it stands.
 #[derive(Debug, Drop)]

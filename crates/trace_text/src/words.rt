@@ -1,17 +1,14 @@
 //! The words of a line.
-ghost use Rattle.std.specs.Prelude.{◌≡◌, ◌≤◌, ◌==◌, ◌++◌, position, length, IfSome, IfOk, Some};
-ghost use Rattle.std.specs.List.{list_all};
+ghost use Rattle.std.specs.Prelude.{◌≡◌, ◌≤◌, ◌==◌, position, IfSome, IfOk};
 ghost use Rattle.std.specs.Option.{option_map};
-ghost use Rattle.tcs_terms.specs.PayloadWords.{is_lower_digit, value_in};
-ghost use Rattle.tcs_terms.specs.Words.{words_of};
+ghost use Rattle.text_words.specs.Words.{words_of};
 ghost use Rattle.trace_text.specs.Readings.{order_in};
-ghost use Rattle.trace_text.specs.Words.{cut, number_within, next_number, txn_in, name_in, bytes_in, each_txn};
+ghost use Rattle.trace_text.specs.Words.{cut, number_within, next_number, txn_in, each_txn};
 
 use crate::spans::{HOMES, SEQUENCE, Span};
-use hex::FromHexError;
 use std::alloc::Global;
-use tcs_terms::limits::MAX_VALUE;
-use tcs_terms::{Name, NameFault, OutOfMemory, TxId, Value, ValueFault, read_number};
+use tcs_terms::{OutOfMemory, TxId};
+use text_words::read_number;
 
 /// The place of the first of these bytes.
 fn place_of(text: &[u8], wanted: u8) -> Option<usize>
@@ -68,70 +65,6 @@ pub(crate) fn txn_in(text: &[u8]) -> Option<TxId>
         home: home as u8,
         seq: seq as u32,
     })
-}
-
-/// The name of an object.
-#[tactic(auto, unfolding(crate::specs::Words::name_in))]
-pub(crate) fn name_in(alloc: Global, word: &[u8]) -> Result<Option<Name>, OutOfMemory>
-    ensures { IfOk result (λ name. name ≡ name_in word.now) }
-{
-    match Name::build(alloc, word) {
-        Ok(name) => Ok(Some(name)),
-        Err(NameFault::Bad(_)) => Ok(None),
-        Err(NameFault::OutOfMemory) => Err(OutOfMemory),
-    }
-}
-
-fn are_lower_digits(word: &[u8]) -> bool
-    ensures { result ≡ list_all is_lower_digit word.now }
-{
-    word.iter()
-        .all(|byte| matches!(*byte, b'0'..=b'9' | b'a'..=b'f'))
-}
-
-/// The bytes that pairs of digits `0` to `9` and `a` to `f` write.
-#[tactic(auto, unfolding(crate::specs::Words::bytes_in))]
-pub(crate) fn bytes_in(alloc: Global, word: &[u8]) -> Result<Option<Vec<u8>>, OutOfMemory>
-    ensures { IfOk result (λ bytes. option_map (λ v. v.items) bytes ≡ bytes_in word.now) }
-{
-    if !are_lower_digits(word) {
-        return Ok(None);
-    }
-    match hex::decode(alloc, word) {
-        Ok(bytes) => Ok(Some(bytes)),
-        Err(FromHexError::OutOfMemory) => Err(OutOfMemory),
-        Err(FromHexError::OddLength) => Ok(None),
-        Err(FromHexError::InvalidHexCharacter { .. }) => Ok(None),
-        Err(FromHexError::InvalidStringLength) => Ok(None),
-    }
-}
-
-/// The value that bytes are.
-fn value_of(alloc: Global, bytes: &[u8]) -> Result<Option<Value>, OutOfMemory>
-    ensures value { IfOk result (λ value. IfSome value (λ v. v ≡ bytes.now)) }
-    ensures some { length bytes.now ≤ MAX_VALUE → IfOk result (λ value. value ≡ Some bytes.now) }
-{
-    match Value::build(alloc, bytes) {
-        Ok(value) => Ok(Some(value)),
-        Err(ValueFault::TooLong(_)) => Ok(None),
-        Err(ValueFault::OutOfMemory) => Err(OutOfMemory),
-    }
-}
-
-/// The value that a word writes: a dash for the empty one, else 1 to 64 pairs of digits.
-pub(crate) fn value_in(alloc: Global, word: &[u8]) -> Result<Option<Value>, OutOfMemory>
-    ensures { IfOk result (λ value. value ≡ value_in word.now) }
-{
-    if word == b"-".as_slice() {
-        return value_of(alloc, b"");
-    }
-    if word.is_empty() || word.len() > MAX_VALUE + MAX_VALUE {
-        return Ok(None);
-    }
-    match bytes_in(alloc, word)? {
-        Some(bytes) => value_of(alloc, &bytes),
-        None => Ok(None),
-    }
 }
 
 /// The transactions that all words of a text write.

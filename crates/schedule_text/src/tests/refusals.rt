@@ -4,7 +4,7 @@ use crate::tests::support::{Outcome, expect_bad, expect_refused, joined, read_te
 use std::alloc::Global;
 use std::process::Abort;
 use std::test::Fail;
-use tcs_terms::Reason;
+use text_words::Reason;
 
 /// One node; six lines.
 const ONE: &str = "tcs 1\ncertifier serial\nshards 1\nnode 1 1\nconfig 1 1 1\nevents\n";

@@ -5,7 +5,7 @@ use crate::tests::support::{Outcome, expect_script_refused, joined, read_script}
 use std::alloc::Global;
 use std::process::Abort;
 use std::test::Fail;
-use tcs_terms::Reason;
+use text_words::Reason;
 
 /// Two nodes; seven lines.
 const TWO: &str = "tcs 1\ncertifier serial\nshards 1\nnode 1 1\nnode 2 1\nconfig 1 1 1 2\nevents\n";

@@ -5,7 +5,7 @@ use std::alloc::{AllocError, Global};
 use std::process::Abort;
 use std::test::Fail;
 use tcs_io::MemSource;
-use tcs_terms::Reason;
+use text_words::Reason;
 
 /// A source that gives at most so many bytes in each read, and fails the reads with these numbers.
 pub fn source_of(

@@ -1,6 +1,6 @@
 use Rattle.std.proofs.Common.{◌≡◌, ◌++◌, take, codes}
 use Rattle.std.specs.List.{flat_map}
-use Rattle.tcs_terms.specs.Texts.{txn_text}
+use Rattle.text_words.specs.Texts.{txn_text}
 use Rattle.trace_text.proofs.printing.put_more.Given as goal
 
 abbrev pub invariant-loop-txn : goal.invariant-loop-txn

@@ -1,6 +1,6 @@
 use Rattle.std.proofs.Common.{◌∷◌, length, Some, sym, ap, ◌∙◌, arith}
 use Rattle.std.proofs.lemmas.List.{length-append}
-use Rattle.tcs_terms.specs.Words.{words_of}
+use Rattle.text_words.specs.Words.{words_of}
 use Rattle.trace_text.specs.Words.{each_txn}
 use Rattle.trace_text.proofs.Cuts.{cut_takes}
 use Rattle.trace_text.proofs.WordLists.{before, before_none, one_more, last_one, none_of_two, none_of_one}

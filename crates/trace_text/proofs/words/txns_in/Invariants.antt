@@ -1,5 +1,5 @@
 use Rattle.std.proofs.Common.{◌≡◌, length}
-use Rattle.tcs_terms.specs.Words.{words_of}
+use Rattle.text_words.specs.Words.{words_of}
 use Rattle.trace_text.specs.Words.{each_txn}
 use Rattle.trace_text.proofs.WordLists.{before}
 use Rattle.trace_text.proofs.words.txns_in.Given as goal

@@ -1,7 +1,0 @@
-use Rattle.std.proofs.Common.{◌≡◌, ◌++◌, take}
-use Rattle.std.specs.List.{flat_map}
-use Rattle.tcs_terms.specs.PayloadText.{read_text}
-use Rattle.tcs_terms.proofs.printing.push_reads.Given as goal
-
-abbrev pub invariant-loop-read : goal.invariant-loop-read
-invariant-loop-read l = l.text.items ≡ l.initial.text.items ++ flat_map read_text (take l.read-index l.reads)

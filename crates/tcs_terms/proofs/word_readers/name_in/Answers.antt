@@ -1,6 +1,0 @@
-use Rattle.std.proofs.Common.{refl}
-use Rattle.tcs_terms.proofs.NameLaws.{no_fault_of_a_name}
-use Rattle.tcs_terms.proofs.word_readers.name_in.Goals as goal
-
-pub returns-in-Ok : goal.returns-in-Ok
-returns-in-Ok c = rw (no_fault_of_a_name c.args.word.now c.in-Ok.ensures.ok, c.in-Ok.ensures.value) refl

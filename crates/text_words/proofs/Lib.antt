@@ -1,0 +1,9 @@
+pub mod NumberLaws
+pub mod HexLaws
+pub mod ValueLaws
+pub mod Steps
+pub mod WordLaws
+pub mod PartLoops
+pub mod WordReadings
+pub mod PayloadReadings
+pub mod PayloadSpelling
