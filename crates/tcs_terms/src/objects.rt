@@ -1,15 +1,20 @@
 //! Names and values of objects.
-ghost use Rattle.tcs_terms.specs.Objects.{is_name_byte};
+ghost use Rattle.tcs_terms.specs.Objects.{is_name_byte, IsName};
 ghost use Rattle.tcs_terms.specs.ObjectFaults.{name_fault};
-ghost use Rattle.std.specs.Prelude.{◌≡◌, not, position, IfOk, IfErr, OnOk};
+ghost use Rattle.std.specs.Prelude.{◌≡◌, not, position, Some, IfOk, IfErr, OnOk, nat_eq, refl};
+ghost use Rattle.std.specs.Ordering.{nat_cmp};
+ghost use Rattle.std.specs.Cmp.{partial_equiv_from_equiv};
+ghost use Rattle.std.specs.Cmp.Lexicographic.{pointwise, slice_cmp, nat_list_eq_equiv, nat_list_cmp_total, texts_po, texts_ties};
 
 use crate::faults::{NameFault, ValueFault};
 use crate::inline::inline;
 use crate::limits::{MAX_NAME, MAX_VALUE};
 use crate::memory::OutOfMemory;
-use arrayvec::ArrayVec;
+use arrayvec::{ArrayString, ArrayVec};
 use std::alloc::Global;
+use std::cmp::Ordering;
 use std::marker::Model;
+use std::str;
 
 /// Whether a byte may stand in a name: `a` to `z`, `0` to `9` and `_`.
 pub fn is_name_byte(byte: u8) -> bool
@@ -37,10 +42,10 @@ fn name_fault(bytes: &[u8]) -> Option<usize>
 }
 
 /// The name of an object: 1 to 32 bytes of `a` to `z`, `0` to `9` and `_`, which lie in the value itself. Seen as the
-/// list of its bytes.
+/// list of its bytes, which also give names their order. As text they are compared eight at a time.
 #[derive(Debug, Drop)]
 pub struct Name {
-    bytes: ArrayVec<u8, MAX_NAME>,
+    text: ArrayString<MAX_NAME>,
 }
 
 impl Model for Name {
@@ -49,9 +54,9 @@ impl Model for Name {
 
     ghost Value = { List ℕ };
 
-    ghost view = { λ n. n.bytes.items };
+    ghost view = { λ n. n.text.bytes };
 
-    ghost invariant = { λ n. IsName n.bytes.items };
+    ghost invariant = { λ n. IsName n.text.bytes };
 }
 
 impl Name {
@@ -81,7 +86,7 @@ impl Name {
         ensures { result ≡ bytes.now }
     {
         Name {
-            bytes: inline(bytes),
+            text: text_of(bytes),
         }
     }
 
@@ -89,7 +94,14 @@ impl Name {
     pub fn copy(&self, _alloc: Global) -> Result<Name, OutOfMemory>
         ensures { IfOk result (λ n. n ≡ self.now) }
     {
-        Ok(Name::of(self.bytes()))
+        Ok(self.again())
+    }
+
+    /// Another name of the same bytes, which takes no memory.
+    pub fn again(&self) -> Name
+        ensures { result ≡ self.now }
+    {
+        Name { text: self.text }
     }
 
     /// The bytes of the name.
@@ -97,7 +109,57 @@ impl Name {
         ensures bytes { result.now ≡ self.now }
         ensures name { IsName self.now }
     {
-        self.bytes.as_slice()
+        self.text.as_str().as_bytes()
+    }
+}
+
+/// The text of the bytes of a name.
+fn text_of(bytes: &[u8]) -> ArrayString<MAX_NAME>
+    requires { IsName bytes.now }
+    ensures { result.bytes ≡ bytes.now }
+{
+    let mut text = ArrayString::new();
+    if let Ok(word) = str::from_utf8(bytes) {
+        let _fits = text.try_push_str(word);
+    }
+    text
+}
+
+impl PartialEq for Name {
+    ghost eq = { λ s t. pointwise nat_eq s t };
+
+    ghost laws = { partial_equiv_from_equiv nat_list_eq_equiv };
+
+    fn eq(&self, other: &Self) -> bool {
+        self.text == other.text
+    }
+}
+
+impl Eq for Name {
+    ghost laws = { nat_list_eq_equiv };
+}
+
+impl PartialOrd for Name {
+    ghost partial_cmp = { λ s t. Some (slice_cmp nat_cmp s t) };
+
+    ghost laws = { texts_po };
+
+    fn partial_cmp(&self, other: &Self) -> Option<Ordering> {
+        Some(self.cmp(other))
+    }
+}
+
+impl Ord for Name {
+    ghost cmp = { λ s t. slice_cmp nat_cmp s t };
+
+    ghost total = { nat_list_cmp_total };
+
+    ghost matches_partial_cmp = { λ s t. refl };
+
+    ghost matches_eq = { λ s t. texts_ties s t };
+
+    fn cmp(&self, other: &Self) -> Ordering {
+        self.text.cmp(&other.text)
     }
 }
 
