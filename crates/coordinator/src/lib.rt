@@ -9,8 +9,6 @@ mod hearing;
 mod open_cases;
 mod parts;
 mod sending;
-#[cfg(test)]
-mod tests;
 mod views;
 
 pub use coordinator::Coordinator;

@@ -9,8 +9,6 @@ mod inputs;
 mod nodes;
 mod outcomes;
 mod parts;
-#[cfg(test)]
-mod tests;
 mod transactions;
 
 pub use nodes::Node;

@@ -12,8 +12,6 @@ mod promising;
 mod replicas;
 mod roles;
 mod telling;
-#[cfg(test)]
-mod tests;
 
 pub use replicas::Replica;
 pub use roles::Role;

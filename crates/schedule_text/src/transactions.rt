@@ -5,9 +5,8 @@ ghost use Rattle.text_words.specs.PayloadWords.{is_numeral, number_in};
 ghost use Rattle.schedule_text.specs.Words.{Gives, Tells, txn_numbers, txn_parts, txn_in, txn_at};
 
 use crate::faults::{LineFault, bad};
-use crate::word_readers::has_node;
 use tcs_terms::limits::MAX_SEQUENCE;
-use tcs_terms::{NodeId, ShardId, TxId};
+use tcs_terms::{NodeId, ShardId, TxId, has_node};
 use text_words::{Reason, Words, is_numeral, read_number};
 
 /// The numbers are in range.

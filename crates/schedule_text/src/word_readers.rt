@@ -2,12 +2,11 @@
 ghost use Rattle.std.specs.Prelude.{◌≡◌, ◌+◌, ◌≤◌, ◌==◌, ◌∷◌, length, IsTrue, ◌||◌, IfOk};
 ghost use Rattle.tcs_terms.specs.declared.limits.TheConstants.{MAX_NODES};
 ghost use Rattle.text_words.specs.PayloadWords.{payload_at};
-ghost use Rattle.tcs_terms.specs.Setups.{has_node, is_node_of};
 ghost use Rattle.schedule_text.specs.Words.{Gives, Tells, Fails, fixed_at, end_at, number_at, between_at, is_for, caller_at, node_of_at, name_at, payload_words_at, next_node_at};
 
 use crate::faults::{LineFault, bad};
 use std::alloc::Global;
-use tcs_terms::{Name, NodeId, Payload, ShardId};
+use tcs_terms::{Name, NodeId, Payload, ShardId, has_node, is_node_of};
 use text_words::{
     Reason, WordFault, Words, all_read, fixed_word, name_word, number_word, read_payload,
 };
@@ -45,20 +44,6 @@ pub(crate) fn between(first: u64, last: u64, words: &mut Words) -> Result<u64, L
         return bad(Reason::Range);
     }
     Ok(number)
-}
-
-/// Whether a number names a node.
-pub(crate) fn has_node(nodes: &[ShardId], number: u64) -> bool
-    ensures { result ≡ has_node nodes.now number }
-{
-    1 <= number && number <= nodes.len() as u64
-}
-
-/// Whether a number names a node of the shard.
-fn is_node_of(nodes: &[ShardId], shard: ShardId, number: u64) -> bool
-    ensures { result ≡ is_node_of nodes.now shard number }
-{
-    has_node(nodes, number) && nodes[number as usize - 1] == shard
 }
 
 fn is_for(only: Option<NodeId>, number: u64) -> bool
