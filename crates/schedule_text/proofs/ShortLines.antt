@@ -22,11 +22,13 @@ use Rattle.tcs_terms.specs.Events.{input_fits, event_fits}
 use Rattle.tcs_terms.specs.Objects.{IsName, IsValue}
 use Rattle.tcs_terms.specs.Payloads.{Accesses, same_name, IsReadPart, IsRangePart, IsWritePart, IsPayload}
 use Rattle.text_words.specs.PayloadText.{value_text, read_text, range_text, write_text, payload_text}
-use Rattle.text_words.specs.HexWords.{is_lower_digit, value_in}
+use Rattle.text_words.specs.HexWords.{is_lower_digit}
 use Rattle.tcs_terms.specs.Places.{Membership, IsMembership, is_node, is_among}
 use Rattle.tcs_terms.specs.Setups.{Deployment, has_node}
 use Rattle.tcs_terms.proofs.BoolLaws.{left_of, right_of}
-use Rattle.text_words.proofs.ValueLaws.{value_in_again}
+use Rattle.text_words.proofs.HexLaws.{bytes_everywhere, encoded_is_lower}
+use Rattle.hex.specs.Hex.{encode_with, encode_lower, lower_digits}
+use Rattle.hex.proofs.HexLemmas.{length-encode_with}
 use Rattle.schedule_text.specs.declared.limits.TheConstants.{LINE_LIMIT}
 use Rattle.schedule_text.specs.Lines.{has_feed, IsLine}
 use Rattle.text_words.specs.Texts.{txn_text}
@@ -68,25 +70,15 @@ fits_name w h = record { free = free_name 10 w (omega arith) h; short = h.short 
 lower_digit_is_free : (b : ℕ) → is_lower_digit b ≡ true → is_free 10 b ≡ true
 lower_digit_is_free b h = grind (arith, nat_tests)
 
-fits_digits : (w : List ℕ) → (not (length w == 0) && nat_le (length w) (MAX_VALUE + MAX_VALUE) && list_all is_lower_digit w) ≡ true → Fits 128 w
-fits_digits w e =
-    let sized = right_of (not (length w == 0)) (nat_le (length w) (MAX_VALUE + MAX_VALUE)) (left_of (not (length w == 0) && nat_le (length w) (MAX_VALUE + MAX_VALUE)) (list_all is_lower_digit w) e) in
-    record {
-      free = weaker is_lower_digit (is_free 10) lower_digit_is_free w (right_of (not (length w == 0) && nat_le (length w) (MAX_VALUE + MAX_VALUE)) (list_all is_lower_digit w) e);
-      short = grind (arith, nat_tests);
-    }
-
--- a word that is read as a value
-fits_value_word : (w v : List ℕ) → value_in w ≡ Some v → Fits 128 w
-fits_value_word w v h = go _ (same_name w (codes "-")) (not (length w == 0) && nat_le (length w) (MAX_VALUE + MAX_VALUE) && list_all is_lower_digit w) refl refl h where
-  go : (r : Option (List ℕ)) (a b : Bool) → same_name w (codes "-") ≡ a → (not (length w == 0) && nat_le (length w) (MAX_VALUE + MAX_VALUE) && list_all is_lower_digit w) ≡ b
-      → cond a (Some []) (cond b r None) ≡ Some v → Fits 128 w
-  go r true b e f k = subst (Fits 128) (sym ((bytes_decides w (codes "-")).0 e)) (record { free = refl; short = omega arith })
-  go r false true e f k = fits_digits w f
-  go r false false e f k = absurd cc
-
 fits_value : (v : List ℕ) → IsValue v → Fits 128 (value_text v)
-fits_value v h = fits_value_word (value_text v) v (value_in_again v h)
+fits_value [] h = record { free = refl; short = omega arith }
+fits_value (b ∷ bs) h =
+    let twice = length-encode_with lower_digits (b ∷ bs) in
+    let few = h.short in
+    record {
+      free = weaker is_lower_digit (is_free 10) lower_digit_is_free (encode_lower (b ∷ bs)) (encoded_is_lower (b ∷ bs) (bytes_everywhere (b ∷ bs) h.are_bytes));
+      short = omega arith;
+    }
 
 -- ---- lists of parts
 
