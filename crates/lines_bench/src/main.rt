@@ -3,6 +3,8 @@
 #![tactic(auto)]
 
 mod reading;
+#[cfg(test)]
+mod tests;
 
 use anyhow::Error;
 use std::time::Instant;

@@ -12,8 +12,6 @@ mod places;
 mod printing;
 mod reader;
 mod script;
-#[cfg(test)]
-mod tests;
 mod transactions;
 mod verbs;
 mod word_readers;

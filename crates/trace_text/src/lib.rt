@@ -12,8 +12,6 @@ mod reader;
 mod results;
 mod spans;
 mod stages;
-#[cfg(test)]
-mod tests;
 mod versions;
 mod words;
 

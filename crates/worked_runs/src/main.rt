@@ -1,13 +1,15 @@
 //! Puts the worked runs through the top call: each schedule of the folder that it runs in, by a source that gives at most
 //! 4,096 bytes a read, and where a line of it is bad also by sources that give 1 and 7. What is written is compared with the
-//! trace beside the schedule, byte for byte.
+//! trace beside the schedule, byte for byte, and that is read as a trace, which has an end where the replay was whole.
 #![tactic(auto)]
 
 mod names;
+mod reading_back;
 mod replaying;
 
 use anyhow::Error;
 use names::WORKED_RUNS;
+use reading_back::ends;
 use replaying::{Ending, ending_of, replay_of};
 use std::fs;
 use std::rt::Files;
@@ -35,7 +37,8 @@ fn worked_run<R: Files + AllocGlobal>(rt: &R, name: &str) -> Result<Ending, Erro
             replays.push(replay_of(rt.alloc(), &schedule, most)?)?;
         }
     }
-    Ok(ending_of(&replays, &trace))
+    let read = ends(rt.alloc(), str::from_utf8(&trace)?)? == is_whole;
+    Ok(ending_of(&replays, &trace, read))
 }
 
 /// How many bytes a source that gives one byte a read has left when the fifth line is refused: all that stand behind it.

@@ -33,12 +33,13 @@ pub(crate) fn replay_of(
     })
 }
 
-/// How the replays of one schedule end, and whether each of them wrote the trace.
+/// How the replays of one schedule end, whether each of them wrote the trace, and whether that is read as one.
 #[derive(Clone, Copy, Debug, PartialEq, Eq)]
 pub(crate) struct Ending {
     pub(crate) status: Status,
     pub(crate) alike: bool,
     pub(crate) traced: bool,
+    pub(crate) read: bool,
 }
 
 impl Display for Ending {
@@ -47,15 +48,18 @@ impl Display for Ending {
         if !self.alike {
             return f.write_str(", not for all reads alike");
         }
-        match self.traced {
+        if !self.traced {
+            return f.write_str(", another trace");
+        }
+        match self.read {
             true => f.write_str(", the trace as written"),
-            false => f.write_str(", another trace"),
+            false => f.write_str(", a trace that is not read as one"),
         }
     }
 }
 
 /// How these replays of one schedule end; where there is none, out of memory.
-pub(crate) fn ending_of(replays: &[Replayed], trace: &[u8]) -> Ending {
+pub(crate) fn ending_of(replays: &[Replayed], trace: &[u8], read: bool) -> Ending {
     let status = match replays {
         [first, ..] => first.status,
         [] => Status::OutOfMemory,
@@ -66,5 +70,6 @@ pub(crate) fn ending_of(replays: &[Replayed], trace: &[u8]) -> Ending {
         traced: replays
             .iter()
             .all(|replay| replay.written.as_slice() == trace),
+        read,
     }
 }

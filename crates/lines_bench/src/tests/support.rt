@@ -1,6 +1,6 @@
 //! What the tests share.
 
-use crate::{Got, LineFault, LineItem, LineReader, Lines, ScriptForm, ScriptItem, ScriptReader};
+use schedule_text::{Got, LineFault, LineItem, LineReader, Lines, ScriptForm, ScriptItem, ScriptReader};
 use std::alloc::{AllocError, Global};
 use std::process::Abort;
 use std::test::Fail;

@@ -1,5 +1,5 @@
 use crate::tests::support::source_of;
-use crate::{Got, Lines, LinesStop};
+use schedule_text::{Got, Lines, LinesStop};
 use std::test::Fail;
 
 #[test]

@@ -1,10 +1,12 @@
 //! Every printed form once.
-use crate::*;
 use std::alloc::Global;
 use std::test::Fail;
 use tcs_terms::{
     Cause, Config, Decision, Handled, Name, Note, Payload, RangePart, ReadPart, Result1, Rule,
     Setup, TxId, Value, WritePart,
+};
+use trace_text::{
+    print_happening, print_head, print_kind, print_message, print_result, print_tail,
 };
 
 const PRINTED: &str = "before trace 1 serial 1

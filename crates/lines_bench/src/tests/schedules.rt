@@ -1,7 +1,7 @@
 //! Schedules that are read, and printed again.
 
 use crate::tests::support::{joined, source_of};
-use crate::{Got, LineItem, LineReader, Lines, has_line, print_event, print_setup};
+use schedule_text::{Got, LineItem, LineReader, Lines, has_line, print_event, print_setup};
 use std::alloc::Global;
 use std::process::Abort;
 use std::test::Fail;

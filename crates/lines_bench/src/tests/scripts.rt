@@ -1,6 +1,6 @@
 //! Scripts, for a whole cluster and for one node.
 
-use crate::ScriptForm;
+use schedule_text::ScriptForm;
 use crate::tests::support::{Outcome, expect_script_refused, joined, read_script};
 use std::alloc::Global;
 use std::process::Abort;
