@@ -5,6 +5,7 @@
 mod counted;
 mod measuring;
 mod payloads;
+mod scattered;
 #[cfg(test)]
 mod tests;
 
@@ -31,12 +32,12 @@ fn main(rt: HostRuntime) -> Result<(), Error> {
     ] {
         let found = measure(&rt, alloc, &payload, rounds)?;
         println!(rt;
-            "{name}: {} reads copied, {} in one shard, {} in the first of two",
-            found.copied, found.whole, found.halves
+            "{name}: {} reads copied, {} scattered, {} in one shard, {} in the first of two",
+            found.copied, found.scattered, found.whole, found.halves
         )?;
         eprintln!(rt;
-            "{name}: copies {} us, in one shard {} us, in the first of two {} us",
-            found.copying, found.sharing, found.splitting
+            "{name}: copies {} us, scattered {} us, in one shard {} us, in the first of two {} us",
+            found.copying, found.scattering, found.sharing, found.splitting
         )?;
     }
     Ok(())

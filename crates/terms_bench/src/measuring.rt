@@ -2,25 +2,38 @@
 ghost use Rattle.std.specs.Prelude.{◌≤◌};
 
 use crate::counted::Counted;
+use crate::scattered::Scattered;
 use anyhow::Error;
 use std::alloc::Global;
 use std::rt::Clock;
 use std::time::Instant;
 use tcs_terms::Payload;
 
-/// How many reads copies had in all, parts of one shard, and parts in the first of two; and the microseconds of each.
+/// How many reads copies had in all, copies of scattered parts, parts of one shard, and parts in the first of two; and the
+/// microseconds of each.
 #[derive(Clone, Copy, Debug)]
 pub struct Measured {
     pub copied: u64,
+    pub scattered: u64,
     pub whole: u64,
     pub halves: u64,
     pub copying: u128,
+    pub scattering: u128,
     pub sharing: u128,
     pub splitting: u128,
 }
 
 /// How many reads so many copies have in all.
 fn copied(alloc: Global, payload: &Payload, rounds: u32) -> Result<u64, Error> {
+    let mut copies = Counted::new(alloc);
+    for _ in 0..rounds {
+        copies.keep(payload.copy(alloc)?)?;
+    }
+    Ok(copies.reads_in_all())
+}
+
+/// How many reads so many copies of its scattered parts have in all.
+fn scattered(alloc: Global, payload: &Scattered, rounds: u32) -> Result<u64, Error> {
     let mut copies = Counted::new(alloc);
     for _ in 0..rounds {
         copies.keep(payload.copy(alloc)?)?;
@@ -52,6 +65,10 @@ pub fn measure(
     let start = Instant::now(rt)?;
     let copied = copied(alloc, payload, rounds)?;
     let copying = start.elapsed(rt)?.as_micros();
+    let apart = Scattered::of(alloc, payload)?;
+    let start = Instant::now(rt)?;
+    let scattered = scattered(alloc, &apart, rounds)?;
+    let scattering = start.elapsed(rt)?.as_micros();
     let start = Instant::now(rt)?;
     let whole = restricted(alloc, payload, 1, rounds)?;
     let sharing = start.elapsed(rt)?.as_micros();
@@ -60,9 +77,11 @@ pub fn measure(
     let splitting = start.elapsed(rt)?.as_micros();
     Ok(Measured {
         copied,
+        scattered,
         whole,
         halves,
         copying,
+        scattering,
         sharing,
         splitting,
     })
