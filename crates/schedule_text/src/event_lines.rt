@@ -11,8 +11,8 @@ use crate::verbs::{CallVerb, Verb};
 use crate::word_readers::{between, caller, end, name, payload};
 use std::alloc::Global;
 use tcs_terms::limits::MAX_WANTED;
-use text_words::Words;
 use tcs_terms::{Event, Input, NodeId, ShardId, Wanted};
+use text_words::Words;
 
 #[tactic(auto, unfolding(crate::specs::Events::alone_at))]
 fn nudge(words: &mut Words) -> Result<Input, LineFault>

@@ -46,12 +46,7 @@ fn last_write(writes: &[WritePart]) -> &[u8]
 
 /// A read, after its `r`.
 #[tactic(auto, unfolding(crate::specs::PayloadWords::read_at))]
-fn read_at(
-    alloc: Global,
-    commit: u64,
-    before: &[u8],
-    words: &mut Words,
-) -> Result<ReadPart, Stop>
+fn read_at(alloc: Global, commit: u64, before: &[u8], words: &mut Words) -> Result<ReadPart, Stop>
     ensures { Tells (λ r. r) result words.new (read_at commit before.now words.old) }
 {
     let name = name_word(alloc, before, words)?;
@@ -137,11 +132,7 @@ fn ranges_in(
 }
 
 /// The writes.
-fn writes_at(
-    alloc: Global,
-    reads: &[ReadPart],
-    words: &mut Words,
-) -> Result<Vec<WritePart>, Stop>
+fn writes_at(alloc: Global, reads: &[ReadPart], words: &mut Words) -> Result<Vec<WritePart>, Stop>
     ensures { Tells (λ ws. ws.items) result words.new (writes_at reads.now words.old) }
 {
     let mut writes = Vec::new(alloc);

@@ -1,7 +1,7 @@
 //! Scripts, for a whole cluster and for one node.
 
-use schedule_text::ScriptForm;
 use crate::tests::support::{Outcome, expect_script_refused, joined, read_script};
+use schedule_text::ScriptForm;
 use std::alloc::Global;
 use std::process::Abort;
 use std::test::Fail;

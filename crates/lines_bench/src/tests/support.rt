@@ -1,6 +1,8 @@
 //! What the tests share.
 
-use schedule_text::{Got, LineFault, LineItem, LineReader, Lines, ScriptForm, ScriptItem, ScriptReader};
+use schedule_text::{
+    Got, LineFault, LineItem, LineReader, Lines, ScriptForm, ScriptItem, ScriptReader,
+};
 use std::alloc::{AllocError, Global};
 use std::process::Abort;
 use std::test::Fail;
