@@ -1,8 +1,7 @@
 -- The lines of a schedule have no line feed, and are no longer than a line may be.
-use Rattle.std.proofs.Common.{◌≡◌, ℕ, zero, suc, ◌+◌, ◌*◌, ◌^◌, ◌<◌, ◌≤◌, Bool, true, false, not, cond, List, [], ◌∷◌, ◌++◌, length, map, All, Option, Some, None, refl, sym, subst, arith, codes, decimal}
+use Rattle.std.proofs.Common.{◌≡◌, ℕ, zero, suc, ◌+◌, ◌*◌, ◌^◌, ◌<◌, ◌≤◌, Bool, true, false, List, [], ◌∷◌, ◌++◌, length, map, All, refl, arith, codes, decimal}
 use Rattle.std.specs.Prelude.{nat_le, ◌==◌, ◌&&◌, ◌||◌}
 use Rattle.std.specs.List.{list_all, flat_map, AllByRecursion}
-use Rattle.std.specs.Cmp.Lexicographic.{bytes_decides}
 use Rattle.std.proofs.lemmas.Bool.{eqb-true}
 use Rattle.std.proofs.lemmas.Bool.Decides.{nat_tests}
 use Rattle.std.proofs.lemmas.Fmt.{length-decimal-le}
@@ -12,7 +11,6 @@ use Rattle.tcs_terms.specs.declared.inputs.Input.{Input}
 use Rattle.tcs_terms.specs.declared.inputs.Input.TheVariants as inputs
 use Rattle.tcs_terms.specs.declared.inputs.Event.{Event}
 use Rattle.tcs_terms.specs.declared.inputs.Event.TheVariants as events
-use Rattle.tcs_terms.specs.declared.limits.TheConstants.{MAX_VALUE}
 use Rattle.tcs_terms.specs.declared.payloads.ReadPart.{ReadPart}
 use Rattle.tcs_terms.specs.declared.payloads.RangePart.{RangePart}
 use Rattle.tcs_terms.specs.declared.payloads.WritePart.{WritePart}
@@ -20,14 +18,14 @@ use Rattle.tcs_terms.specs.declared.setups.Rule.{Rule}
 use Rattle.tcs_terms.specs.declared.setups.Rule.TheVariants as rules
 use Rattle.tcs_terms.specs.Events.{input_fits, event_fits}
 use Rattle.tcs_terms.specs.Objects.{IsName, IsValue}
-use Rattle.tcs_terms.specs.Payloads.{Accesses, same_name, IsReadPart, IsRangePart, IsWritePart, IsPayload}
+use Rattle.tcs_terms.specs.Payloads.{Accesses, IsReadPart, IsRangePart, IsWritePart, IsPayload}
 use Rattle.text_words.specs.PayloadText.{value_text, read_text, range_text, write_text, payload_text}
 use Rattle.text_words.specs.HexWords.{is_lower_digit}
 use Rattle.tcs_terms.specs.Places.{Membership, IsMembership, is_node, is_among}
 use Rattle.tcs_terms.specs.Setups.{Deployment, has_node}
 use Rattle.tcs_terms.proofs.BoolLaws.{left_of, right_of}
 use Rattle.text_words.proofs.HexLaws.{bytes_everywhere, encoded_is_lower}
-use Rattle.hex.specs.Hex.{encode_with, encode_lower, lower_digits}
+use Rattle.hex.specs.Hex.{encode_lower, lower_digits}
 use Rattle.hex.proofs.HexLemmas.{length-encode_with}
 use Rattle.schedule_text.specs.declared.limits.TheConstants.{LINE_LIMIT}
 use Rattle.schedule_text.specs.Lines.{has_feed, IsLine}

@@ -10,7 +10,6 @@ use Rattle.text_words.specs.declared.words.Stop.TheVariants as stops
 use Rattle.text_words.specs.PayloadWords.{Misfit, ◌>>=◌, is_numeral, number_in, fixed_word, all_read, number_word, name_word, payload_at}
 use Rattle.tcs_terms.specs.Payloads.{Accesses}
 use Rattle.tcs_terms.specs.Setups.{has_node, is_node_of}
-use Rattle.text_words.specs.Words.{begins, after}
 use Rattle.schedule_text.specs.declared.faults.LineFault.{LineFault}
 use Rattle.schedule_text.specs.declared.faults.LineFault.TheVariants as faults
 

@@ -8,7 +8,7 @@ use Rattle.std.proofs.lemmas.Bool.Decides.{nat_tests}
 use Rattle.std.proofs.lemmas.List.{get_or_past}
 use Rattle.hex.specs.declared.error.FromHexError.{FromHexError}
 use Rattle.hex.specs.Hex.{decode_of, decode_pairs, encode_with, encode_lower, lower_digits, hex_digit_value, digit_or_error, value_at, pair_value, ◌>>=◌, IsBytes}
-use Rattle.hex.proofs.HexLemmas.{decode_of-ok, decode_of-even, decode_of-encode_lower, length-encode_with}
+use Rattle.hex.proofs.HexLemmas.{decode_of-ok, decode_of-even, decode_of-encode_lower}
 use Rattle.tcs_terms.specs.declared.limits.TheConstants.{MAX_VALUE}
 use Rattle.tcs_terms.specs.Objects.{IsValue}
 use Rattle.tcs_terms.proofs.BoolLaws.{both, left_of, right_of}

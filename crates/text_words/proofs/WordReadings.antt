@@ -1,5 +1,5 @@
 -- A word that is read is the one that is printed, and what is printed is read again.
-use Rattle.std.proofs.Common.{◌≡◌, ℕ, ◌^◌, ◌<◌, Bool, true, false, not, ◌||◌, ◌&&◌, cond, List, [], ◌∷◌, length, get_or, Option, Some, None, Result, Ok, Err, refl, sym, ◌∙◌, ap, subst, arith, inl, inr}
+use Rattle.std.proofs.Common.{◌≡◌, ℕ, ◌^◌, ◌<◌, Bool, true, false, not, ◌||◌, ◌&&◌, cond, List, [], ◌∷◌, length, get_or, Option, Some, None, Ok, refl, sym, ◌∙◌, ap, subst, arith, inl, inr}
 use Rattle.std.specs.Prelude.{nat_lt, ◌==◌, slice_index, decimal, is_none}
 use Rattle.std.specs.List.{list_all}
 use Rattle.std.specs.Char.{is_ascii_digit}
@@ -14,7 +14,7 @@ use Rattle.tcs_terms.specs.ObjectFaults.{name_fault}
 use Rattle.tcs_terms.specs.Order.{name_before}
 use Rattle.tcs_terms.specs.Payloads.{reads_name}
 use Rattle.text_words.specs.PayloadText.{value_text}
-use Rattle.text_words.specs.PayloadWords.{Misfit, misfit, ◌>>=◌, is_numeral, number_in, is_printable, number_or, number_word, name_in, name_word, from_word, written_word, found_or, value_word, commit_word, version_word}
+use Rattle.text_words.specs.PayloadWords.{misfit, ◌>>=◌, is_numeral, number_in, is_printable, number_or, number_word, name_in, name_word, from_word, written_word, found_or, value_word, commit_word, version_word}
 use Rattle.text_words.specs.HexWords.{value_in}
 use Rattle.tcs_terms.proofs.BoolLaws.{both, right_of, not_true}
 use Rattle.tcs_terms.proofs.NameLaws.{is_name_without_fault, no_fault_of_a_name}

@@ -17,7 +17,7 @@ use Rattle.text_words.specs.Words.{words_of, begins, after}
 use Rattle.text_words.specs.HexWords.{value_in}
 use Rattle.tcs_terms.specs.ObjectFaults.{name_fault}
 use Rattle.tcs_terms.specs.Order.{name_before}
-use Rattle.tcs_terms.specs.Payloads.{Accesses, same_name, reads_name}
+use Rattle.tcs_terms.specs.Payloads.{Accesses, reads_name}
 
 -- why a word does not fit, and how many words there are from it on; none where a word is missing
 pub record Misfit : Type 0 where

@@ -1,6 +1,6 @@
 -- Numbers, transactions, rules and names: what is read is spelled so, and what is spelled so is read.
-use Rattle.std.proofs.Common.{◌≡◌, inl, inr, ℕ, ◌+◌, ◌^◌, ◌<◌, ◌≤◌, Bool, true, false, not, ◌&&◌, ◌||◌, cond, List, [], ◌∷◌, ◌++◌, length, Option, Some, None, Ok, refl, sym, ap, subst, ◌∙◌, append_assoc, arith}
-use Rattle.std.specs.Prelude.{◌==◌, nat_le, codes, decimal, is_none}
+use Rattle.std.proofs.Common.{◌≡◌, ℕ, ◌+◌, ◌^◌, ◌<◌, ◌≤◌, Bool, true, not, ◌&&◌, List, [], ◌∷◌, ◌++◌, Some, refl, ap, subst, ◌∙◌, arith}
+use Rattle.std.specs.Prelude.{◌==◌, nat_le, codes, decimal}
 use Rattle.std.specs.List.{list_all}
 use Rattle.std.specs.Char.{is_ascii_digit}
 use Rattle.std.specs.Cmp.Lexicographic.{bytes_decides}
@@ -12,21 +12,17 @@ use Rattle.tcs_terms.specs.declared.limits.TheConstants.{MAX_NODES, MAX_SEQUENCE
 use Rattle.tcs_terms.specs.declared.ids.TxId.{TxId}
 use Rattle.tcs_terms.specs.declared.setups.Rule.{Rule}
 use Rattle.tcs_terms.specs.declared.setups.Rule.TheVariants.{Serial, Snapshot, Commute}
-use Rattle.text_words.specs.declared.words.Reason.TheVariants as reasons
 use Rattle.tcs_terms.specs.Objects.{is_name_byte, IsName}
-use Rattle.tcs_terms.specs.ObjectFaults.{name_fault}
 use Rattle.tcs_terms.specs.Places.{is_node}
 use Rattle.tcs_terms.specs.Messages.{is_txn}
-use Rattle.text_words.specs.PayloadWords.{misfit, is_printable, number_in, number_or, number_word}
+use Rattle.text_words.specs.PayloadWords.{number_in}
 use Rattle.tcs_terms.proofs.BoolLaws.{both, left_of, right_of}
-use Rattle.tcs_terms.proofs.NameLaws.{is_name_without_fault, no_fault_of_a_name}
 use Rattle.text_words.specs.Texts.{txn_text}
 use Rattle.tcs_terms.specs.Rules.{rule_text}
 use Rattle.text_words.proofs.NumberLaws.{numerals}
 use Rattle.text_words.proofs.WordReadings.{number_in_takes, number_in_again}
 use Rattle.trace_text.specs.Words.{cut, is_word, number_within, next_number, txn_in}
-use Rattle.text_words.specs.PayloadWords.{name_in}
-use Rattle.trace_text.proofs.Steps.{bind_some, some_is, kept, either}
+use Rattle.trace_text.proofs.Steps.{bind_some, some_is, kept}
 use Rattle.trace_text.proofs.Cuts.{lacks, cut_takes, cut_again}
 
 pub word_is : (word text : List ℕ) → is_word word text ≡ true → text ≡ word

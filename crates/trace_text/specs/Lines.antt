@@ -1,5 +1,5 @@
 -- The lines of a trace, and which of them may stand where.
-use Rattle.std.specs.Prelude.{◌≡◌, ℕ, ◌+◌, ◌^◌, ◌<◌, ◌≤◌, Bool, true, false, ◌&&◌, ◌||◌, ◌==◌, nat_le, List, ◌++◌, slice_index, codes, decimal, IsTrue}
+use Rattle.std.specs.Prelude.{◌≡◌, ℕ, ◌+◌, ◌^◌, ◌<◌, ◌≤◌, ◌&&◌, ◌||◌, ◌==◌, nat_le, List, ◌++◌, slice_index, codes, decimal, IsTrue}
 use Rattle.std.specs.List.{list_all}
 use Rattle.hex.specs.Hex.{IsBytes, encode_lower}
 use Rattle.tcs_terms.specs.declared.limits.TheConstants.{MAX_NODES, MAX_SHARDS}

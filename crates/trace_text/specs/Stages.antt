@@ -1,7 +1,7 @@
 -- Which lines of a trace may stand behind which.
 use Rattle.std.specs.Prelude.{ℕ, Bool, true, false, if◌then◌else◌, List, codes}
 use Rattle.trace_text.specs.declared.stages.Stage.{Stage}
-use Rattle.trace_text.specs.declared.stages.Stage.TheVariants.{Start, Begun, Event, Messages, Ordered, Ended}
+use Rattle.trace_text.specs.declared.stages.Stage.TheVariants.{Start, Begun, Event, Messages, Ordered}
 use Rattle.trace_text.specs.declared.stages.LineForm.{LineForm}
 use Rattle.trace_text.specs.declared.stages.LineForm.TheVariants as forms
 use Rattle.trace_text.specs.Words.{is_word}

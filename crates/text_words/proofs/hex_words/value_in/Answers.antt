@@ -1,4 +1,4 @@
-use Rattle.std.proofs.Common.{sym, ◌∙◌, arith}
+use Rattle.std.proofs.Common.{sym, arith}
 use Rattle.text_words.proofs.HexLaws.{few_digits}
 use Rattle.text_words.proofs.hex_words.value_in.Goals as goal
 
