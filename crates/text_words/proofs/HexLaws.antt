@@ -2,7 +2,7 @@
 use Rattle.std.proofs.Common.{◌≡◌, ℕ, zero, suc, ◌+◌, ◌*◌, ◌/◌, ◌%◌, ◌<◌, ◌≤◌, Bool, true, false, ◌&&◌, cond, List, [], ◌∷◌, ◌++◌, length, All, Option, Some, None, Result, Ok, Err, refl, sym, ◌∙◌, ap, arith, inl, inr, ◌⊎◌}
 use Rattle.std.specs.Prelude.{slice_index}
 use Rattle.std.specs.Result.{result_ok}
-use Rattle.std.specs.List.{list_all, flat_map}
+use Rattle.std.specs.List.{list_all}
 use Rattle.std.proofs.lemmas.Bool.{cases_lt}
 use Rattle.std.proofs.lemmas.Bool.Decides.{nat_tests}
 use Rattle.std.proofs.lemmas.List.{get_or_past}
@@ -24,13 +24,6 @@ bytes_everywhere bytes h i = elim (cases_lt i (length bytes)) [
   | inl lt ↦ h i 0 lt
   | inr le ↦ rw (get_or_past bytes i 0 le) (omega arith)
 ]
-
--- ---- byte by byte
-
-pub each_byte : (bytes : List ℕ) → flat_map (λ byte. encode_lower (byte ∷ [])) bytes ≡ encode_lower bytes
-unfolding encode_with
-each_byte [] = refl
-each_byte (b ∷ bs) = ap (λ (digits : List ℕ). encode_lower (b ∷ []) ++ digits) (each_byte bs)
 
 -- ---- digits
 

@@ -1,5 +1,5 @@
 //! Bytes and values in hex, in lower case.
-ghost use Rattle.std.specs.Prelude.{◌≡◌, ◌++◌, ◌∷◌, [], IfOk, OnOk, OnErr};
+ghost use Rattle.std.specs.Prelude.{◌≡◌, ◌+◌, ◌*◌, ◌++◌, IfSome, IfOk, OnOk, OnErr};
 ghost use Rattle.std.specs.List.{list_all};
 ghost use Rattle.std.specs.Option.{option_map};
 ghost use Rattle.hex.specs.Hex.{encode_lower};
@@ -53,33 +53,29 @@ pub fn value_in(alloc: Global, word: &[u8]) -> Result<Option<Value>, OutOfMemory
     }
 }
 
-/// The two digits of a byte, the high four bits first.
-#[tactic(auto, unfolding(hex::specs::Hex::encode_with))]
-fn digits_of(byte: u8) -> [u8; 2]
-    ensures { result ≡ encode_lower (byte ∷ []) }
+/// Where the digits of so many bytes end, unless no memory has so much room.
+fn end_of_hex(start: usize, count: usize) -> Option<usize>
+    ensures { IfSome result (λ end. end ≡ start + 2 * count) }
 {
-    let digits = b"0123456789abcdef";
-    [
-        digits[usize::from(byte / 16)],
-        digits[usize::from(byte % 16)],
-    ]
+    match count.checked_mul(2) {
+        Some(digits) => start.checked_add(digits),
+        None => None,
+    }
 }
 
-fn put_byte(out: &mut Vec<u8>, byte: u8) -> Result<(), OutOfMemory>
-    ensures ok { OnOk result (out.new.items ≡ out.old.items ++ encode_lower (byte ∷ [])) }
-    ensures err { OnErr result (Begins out.old.items out.new.items) }
-{
-    put(out, &digits_of(byte))
-}
-
-/// Appends bytes in lower-case hex. After want of memory the buffer begins with what it held.
+/// Appends bytes in lower-case hex, into room that is made once. After want of memory the buffer begins with what it
+/// held.
 pub fn put_hex(out: &mut Vec<u8>, bytes: &[u8]) -> Result<(), OutOfMemory>
     ensures ok { OnOk result (out.new.items ≡ out.old.items ++ encode_lower bytes.now) }
     ensures err { OnErr result (Begins out.old.items out.new.items) }
 {
-    for byte in bytes {
-        put_byte(out, *byte)?;
-    }
+    let start = out.len();
+    let Some(end) = end_of_hex(start, bytes.len()) else {
+        return Err(OutOfMemory);
+    };
+    out.resize(end, 0)?;
+    let all = out.as_mut_slice();
+    let _fits = hex::encode_to_slice(bytes, &mut all[start..]);
     Ok(())
 }
 

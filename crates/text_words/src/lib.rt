@@ -14,6 +14,6 @@ pub use cursor::Words;
 pub use hex_words::{bytes_in, put_hex, put_value, value_in};
 pub use printing::print_payload;
 pub use reading::read_payload;
-pub use texts::{is_numeral, put, put_number, put_txn, read_number};
+pub use texts::{is_numeral, put, put_byte, put_number, put_txn, read_number};
 pub use word_readers::{all_read, fixed_word, name_in, name_word, number_word};
 pub use words::{Reason, Stop, WordFault};
