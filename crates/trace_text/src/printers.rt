@@ -9,7 +9,7 @@ ghost use Rattle.trace_text.specs.Lines.{HeadLine, EventLine, NoteLine, MessageL
 
 use crate::printing::{put_decision, put_field, put_handled, put_order};
 use tcs_terms::{Kind, NodeId, Note, OutOfMemory, Result1, Setup, TxId};
-use text_words::{print_payload, put, put_hex, put_number, put_txn, put_value};
+use text_words::{print_payload, put, put_byte, put_hex, put_number, put_txn, put_value};
 
 /// The first line: the version, the rule and the number of shards.
 pub fn print_head(setup: &Setup, out: &mut Vec<u8>) -> Result<(), OutOfMemory>
@@ -18,10 +18,10 @@ pub fn print_head(setup: &Setup, out: &mut Vec<u8>) -> Result<(), OutOfMemory>
 {
     put(out, b"trace")?;
     put_field(out, u64::from(setup.version()))?;
-    put(out, b" ")?;
+    put_byte(out, b' ')?;
     put(out, setup.rule().word().as_bytes())?;
     put_field(out, u64::from(setup.shards()))?;
-    put(out, b"\n")
+    put_byte(out, b'\n')
 }
 
 /// The words of a result.
@@ -44,7 +44,7 @@ fn put_note(note: &Note, out: &mut Vec<u8>) -> Result<(), OutOfMemory>
         Note::Begin { txn, payload } => {
             put(out, b"begin ")?;
             put_txn(out, *txn)?;
-            put(out, b" ")?;
+            put_byte(out, b' ')?;
             print_payload(payload, out)
         }
         Note::Take { txn } => {
@@ -58,15 +58,15 @@ fn put_note(note: &Note, out: &mut Vec<u8>) -> Result<(), OutOfMemory>
         } => {
             put(out, b"read ")?;
             put(out, name.bytes())?;
-            put(out, b" ")?;
+            put_byte(out, b' ')?;
             put_number(out, *version)?;
-            put(out, b" ")?;
+            put_byte(out, b' ')?;
             put_value(out, value.bytes())
         }
         Note::Decide { txn, decision } => {
             put(out, b"decide ")?;
             put_txn(out, *txn)?;
-            put(out, b" ")?;
+            put_byte(out, b' ')?;
             put_decision(out, *decision)
         }
     }
@@ -78,7 +78,7 @@ pub fn print_note(note: &Note, out: &mut Vec<u8>) -> Result<(), OutOfMemory>
     ensures err { OnErr result (Begins out.old.items out.new.items) }
 {
     put_note(note, out)?;
-    put(out, b"\n")
+    put_byte(out, b'\n')
 }
 
 /// The name of a kind of message, 1 to 17.
@@ -98,11 +98,11 @@ fn put_event(k: u32, result1: &Result1, out: &mut Vec<u8>) -> Result<(), OutOfMe
     ensures ok { OnOk result (out.new.items ≡ out.old.items ++ printed (EventLine k result1.now)) }
     ensures err { OnErr result (Begins out.old.items out.new.items) }
 {
-    put(out, b"e")?;
+    put_byte(out, b'e')?;
     put_field(out, u64::from(k))?;
-    put(out, b" ")?;
+    put_byte(out, b' ')?;
     print_result(result1, out)?;
-    put(out, b"\n")
+    put_byte(out, b'\n')
 }
 
 /// The line of an event, numbered from 1, with its result, and the lines of its notes.
@@ -134,7 +134,7 @@ fn put_ends(number: u32, from: NodeId, to: NodeId, out: &mut Vec<u8>) -> Result<
     ensures ok { OnOk result (out.new.items ≡ out.old.items ++ (codes "m " ++ decimal number ++ codes " " ++ decimal from ++ codes " " ++ decimal to)) }
     ensures err { OnErr result (Begins out.old.items out.new.items) }
 {
-    put(out, b"m")?;
+    put_byte(out, b'm')?;
     put_field(out, u64::from(number))?;
     put_field(out, u64::from(from))?;
     put_field(out, u64::from(to))
@@ -147,7 +147,7 @@ fn put_frame(frame: &[u8], out: &mut Vec<u8>) -> Result<(), OutOfMemory>
     ensures err { OnErr result (Begins out.old.items out.new.items) }
 {
     print_kind(first_byte(frame), out)?;
-    put(out, b" ")?;
+    put_byte(out, b' ')?;
     put_hex(out, frame)
 }
 
@@ -164,9 +164,9 @@ pub fn print_message(
     ensures err { OnErr result (Begins out.old.items out.new.items) }
 {
     put_ends(number, from, to, out)?;
-    put(out, b" ")?;
+    put_byte(out, b' ')?;
     put_frame(frame, out)?;
-    put(out, b"\n")
+    put_byte(out, b'\n')
 }
 
 fn first_byte(frame: &[u8]) -> u8
@@ -193,5 +193,5 @@ pub fn print_tail(
     put(out, b"\nend")?;
     put_field(out, u64::from(events))?;
     put_field(out, u64::from(messages))?;
-    put(out, b"\n")
+    put_byte(out, b'\n')
 }

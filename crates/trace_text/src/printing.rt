@@ -6,7 +6,7 @@ ghost use Rattle.text_words.specs.Texts.{txn_text};
 ghost use Rattle.trace_text.specs.Texts.{handled_text, cause_text, decision_text, order_text};
 
 use tcs_terms::{Cause, Decision, Handled, OutOfMemory, TxId};
-use text_words::{put, put_number, put_txn};
+use text_words::{put, put_byte, put_number, put_txn};
 
 pub(crate) fn put_handled(out: &mut Vec<u8>, handled: Handled) -> Result<(), OutOfMemory>
     ensures ok { OnOk result (out.new.items ≡ out.old.items ++ handled_text handled) }
@@ -48,7 +48,7 @@ pub(crate) fn put_decision(out: &mut Vec<u8>, decision: Decision) -> Result<(), 
         Decision::Abort { shard, cause } => {
             put(out, b"abort ")?;
             put_number(out, u64::from(shard))?;
-            put(out, b" ")?;
+            put_byte(out, b' ')?;
             put_cause(out, cause)
         }
     }
@@ -59,7 +59,7 @@ pub(crate) fn put_field(out: &mut Vec<u8>, number: u64) -> Result<(), OutOfMemor
     ensures ok { OnOk result (out.new.items ≡ out.old.items ++ (codes " " ++ decimal number)) }
     ensures err { OnErr result (Begins out.old.items out.new.items) }
 {
-    put(out, b" ")?;
+    put_byte(out, b' ')?;
     put_number(out, number)
 }
 
@@ -68,7 +68,7 @@ fn put_next(out: &mut Vec<u8>, txn: TxId) -> Result<(), OutOfMemory>
     ensures ok { OnOk result (out.new.items ≡ out.old.items ++ (codes " " ++ txn_text txn)) }
     ensures err { OnErr result (Begins out.old.items out.new.items) }
 {
-    put(out, b" ")?;
+    put_byte(out, b' ')?;
     put_txn(out, txn)
 }
 
@@ -87,7 +87,7 @@ pub(crate) fn put_order(out: &mut Vec<u8>, order: &[TxId]) -> Result<(), OutOfMe
     ensures err { OnErr result (Begins out.old.items out.new.items) }
 {
     match order {
-        [] => put(out, b"-"),
+        [] => put_byte(out, b'-'),
         [first, others @ ..] => {
             put_txn(out, *first)?;
             put_more(out, others)
