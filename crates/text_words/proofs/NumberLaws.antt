@@ -1,21 +1,28 @@
--- The number that a word writes: digit by digit, and its one spelling is `decimal`.
-use Rattle.std.proofs.Common.{◌≡◌, ℕ, ◌+◌, ◌-◌, ◌*◌, ◌^◌, ◌<◌, ◌≤◌, true, false, not, ◌||◌, ◌&&◌, List, length, get_or, take, Some, None, refl, sym, ap, ◌∙◌, subst, arith, rules, inl, inr}
-use Rattle.std.specs.Prelude.{nat_lt, ◌==◌, slice_index}
+-- The number that a word writes: std's parser gives it, and its one spelling is `decimal`.
+use Rattle.std.proofs.Common.{◌≡◌, ℕ, ◌^◌, ◌<◌, ◌≢◌, true, false, not, ◌||◌, ◌&&◌, List, [], ◌∷◌, length, get_or, Result, Ok, Err, refl, arith, rules, inl, inr}
+use Rattle.std.specs.Prelude.{nat_lt, ◌==◌, slice_index, IsAscii}
+use Rattle.std.specs.Result.{result_ok, OkIff}
 use Rattle.std.specs.List.{list_all}
-use Rattle.std.specs.Char.{is_ascii_digit, digit_value}
-use Rattle.std.specs.Str.Parse.{digits_value}
+use Rattle.std.specs.Char.{is_ascii_digit}
+use Rattle.std.specs.Str.{IsUtf8}
+use Rattle.std.specs.Str.Parse.{digits_value, ParsesUnsigned}
 use Rattle.std.proofs.lemmas.Bool.{cases_lt}
 use Rattle.std.proofs.lemmas.Bool.Decides.{nat_tests}
-use Rattle.std.proofs.lemmas.List.{take_all}
-use Rattle.std.proofs.lemmas.List.Sums.{AllPass-from_list_all}
-use Rattle.std.proofs.lemmas.Int.Digits.{digits_value_more}
-use Rattle.std.proofs.lemmas.Str.Parse.{IsNumeralModel, numerals_by_value, digits_value-take-le}
-use Rattle.text_words.specs.PayloadWords.{is_numeral, within}
+use Rattle.std.proofs.lemmas.Str.{IsUtf8-from_ascii}
+use Rattle.std.proofs.lemmas.Str.Ascii.{IsAscii-nil, IsAscii-cons}
+use Rattle.std.proofs.lemmas.Str.Parse.{IsNumeralModel, numerals_by_value, parse_plain}
+use Rattle.text_words.specs.PayloadWords.{is_numeral, number_in}
 use Rattle.tcs_terms.proofs.BoolLaws.{left_of, right_of, not_false}
 
 -- texts of digits, and their numbers, as std's lemmas want them
 pub numerals : IsNumeralModel (λ ds. list_all is_ascii_digit ds ≡ true) (digits_value 10)
 numerals = numerals_by_value (λ ds. list_all is_ascii_digit ds ≡ true) (search rules)
+
+digits_are_ascii : (word : List ℕ) → list_all is_ascii_digit word ≡ true → IsAscii word
+digits_are_ascii [] h = IsAscii-nil
+digits_are_ascii (c ∷ cs) h =
+    let digit = left_of (is_ascii_digit c) (list_all is_ascii_digit cs) h in
+    IsAscii-cons c cs (grind (arith, nat_tests)) (digits_are_ascii cs (right_of (is_ascii_digit c) (list_all is_ascii_digit cs) h))
 
 pub digits_of_numeral : (word : List ℕ) → is_numeral word ≡ true → list_all is_ascii_digit word ≡ true
 digits_of_numeral word h = right_of (not (length word == 0) && (not (slice_index word 0 == 48) || (length word == 1))) (list_all is_ascii_digit word) h
@@ -23,63 +30,28 @@ digits_of_numeral word h = right_of (not (length word == 0) && (not (slice_index
 pub form_of_numeral : (word : List ℕ) → is_numeral word ≡ true → (not (length word == 0) && (not (slice_index word 0 == 48) || (length word == 1))) ≡ true
 form_of_numeral word h = left_of (not (length word == 0) && (not (slice_index word 0 == 48) || (length word == 1))) (list_all is_ascii_digit word) h
 
+pub numeral_is_text : (word : List ℕ) → is_numeral word ≡ true → IsUtf8 word
+numeral_is_text word h = IsUtf8-from_ascii word (digits_are_ascii word (digits_of_numeral word h))
+
 pub nonempty_of_numeral : (word : List ℕ) → is_numeral word ≡ true → 0 < length word
 nonempty_of_numeral word h =
     let some = not_false (length word == 0) (left_of (not (length word == 0)) (not (slice_index word 0 == 48) || (length word == 1)) (form_of_numeral word h)) in
     grind (arith, nat_tests)
 
--- ---- digit by digit
+first_is_no_plus : (word : List ℕ) → 0 < length word → list_all is_ascii_digit word ≡ true → get_or word 0 0 ≢ 43
+first_is_no_plus [] some h = absurd (omega arith)
+first_is_no_plus (c ∷ cs) some h = let digit = left_of (is_ascii_digit c) (list_all is_ascii_digit cs) h in λ e. absurd (grind (arith, nat_tests))
 
-digit_is : (c : ℕ) → is_ascii_digit c ≡ true → digit_value c ≡ c - 48
-digit_is c h =
-    let low : nat_lt c 48 ≡ false = grind (arith, nat_tests) in
-    let high : nat_lt c 58 ≡ true = grind (arith, nat_tests) in
-    rw (low, high) refl
+small_is : (a b : ℕ) → a < b → nat_lt a b ≡ true
+small_is a b h = grind (arith, nat_tests)
 
--- the number with one more digit
-more_digits : (ds : List ℕ) (i : ℕ) → i < length ds → list_all is_ascii_digit ds ≡ true
-    → digits_value 10 (take (i + 1) ds) ≡ digits_value 10 (take i ds) * 10 + (get_or ds i 0 - 48)
-more_digits ds i lt h =
-    digits_value_more 10 ds i lt
-    ∙ ap (λ v. digits_value 10 (take i ds) * 10 + v) (digit_is (get_or ds i 0) (AllPass-from_list_all is_ascii_digit ds h i 0 lt))
+large_is : (a b : ℕ) → (a < b → ⊥) → nat_lt a b ≡ false
+large_is a b h = elim (cases_lt a b) [ inl lt ↦ absurd (h lt) | inr le ↦ grind (arith, nat_tests) ]
 
-small_is : (n : ℕ) → n < 2 ^ 64 → within n ≡ Some n
-small_is n h = let small : nat_lt n (2 ^ 64) ≡ true = grind (arith, nat_tests) in rw small refl
-
-large_is : (n : ℕ) → 2 ^ 64 ≤ n → within n ≡ None
-large_is n h = let large : nat_lt n (2 ^ 64) ≡ false = grind (arith, nat_tests) in rw large refl
-
-within_some : (n m : ℕ) → within n ≡ Some m → (m ≡ n) × (m < 2 ^ 64)
-within_some n m h = elim (cases_lt n (2 ^ 64)) [
-  | inl lt ↦ let same : Some n ≡ Some m = sym (small_is n lt) ∙ h in let e : n ≡ m = cc in (sym e, subst (λ k. k < 2 ^ 64) e lt)
-  | inr le ↦ absurd (let no : None ≡ Some m = sym (large_is n le) ∙ h in cc)
-]
-
-within_none : (n : ℕ) → within n ≡ None → 2 ^ 64 ≤ n
-within_none n h = elim (cases_lt n (2 ^ 64)) [
-  | inl lt ↦ absurd (let no : Some n ≡ None = sym (small_is n lt) ∙ h in cc)
-  | inr le ↦ le
-]
-
--- where one more digit fits, the number goes on with it
-pub goes_on : (ds : List ℕ) (i number next : ℕ) → i < length ds → list_all is_ascii_digit ds ≡ true → number ≡ digits_value 10 (take i ds)
-    → within (number * 10 + (get_or ds i 0 - 48)) ≡ Some next → (next ≡ digits_value 10 (take (i + 1) ds)) × (next < 2 ^ 64)
-goes_on ds i number next lt h is fits =
-    let found = within_some (number * 10 + (get_or ds i 0 - 48)) next fits in
-    (found.0 ∙ ap (λ n. n * 10 + (get_or ds i 0 - 48)) is ∙ sym (more_digits ds i lt h), found.1)
-
--- where it does not, all the digits do not fit
-pub gives_up : (ds : List ℕ) (i number : ℕ) → i < length ds → list_all is_ascii_digit ds ≡ true → number ≡ digits_value 10 (take i ds)
-    → within (number * 10 + (get_or ds i 0 - 48)) ≡ None → None ≡ within (digits_value 10 ds)
-gives_up ds i number lt h is none_fits =
-    let here = within_none (number * 10 + (get_or ds i 0 - 48)) none_fits in
-    let more : number * 10 + (get_or ds i 0 - 48) ≡ digits_value 10 (take (i + 1) ds) =
-    ap (λ n. n * 10 + (get_or ds i 0 - 48)) is ∙ sym (more_digits ds i lt h) in
-    let whole = digits_value-take-le 10 ds (i + 1) (omega arith) in
-    sym (large_is (digits_value 10 ds) (omega (arith, here, more, whole)))
-
-pub all_digits : (ds : List ℕ) (i number : ℕ) → length ds ≤ i → number ≡ digits_value 10 (take i ds) → number < 2 ^ 64
-    → Some number ≡ within (digits_value 10 ds)
-all_digits ds i number past is fits =
-    let same : number ≡ digits_value 10 ds = is ∙ ap (digits_value 10) (take_all i ds past) in
-    subst (λ n. Some number ≡ within n) same (sym (small_is number fits))
+-- what std's parser answers for a numeral
+pub parsed : {E : Type 0} (word : List ℕ) (r : Result ℕ E) → is_numeral word ≡ true → ParsesUnsigned 64 10 word r → result_ok r ≡ number_in word
+parsed {E = E} word r h given = go r (parse_plain numerals 64 word r given (first_is_no_plus word (nonempty_of_numeral word h) (digits_of_numeral word h))) where
+  go : (r : Result ℕ E) → OkIff r ((list_all is_ascii_digit word ≡ true) × (0 < length word) × (digits_value 10 word < 2 ^ 64)) (digits_value 10 word) → result_ok r ≡ number_in word
+  go (Ok n) k = let small : nat_lt (digits_value 10 word) (2 ^ 64) ≡ true = small_is _ _ k.0.2 in rw (h, small, k.1) refl
+  go (Err e) k =
+      let large : nat_lt (digits_value 10 word) (2 ^ 64) ≡ false = large_is _ _ (λ lt. k (digits_of_numeral word h, nonempty_of_numeral word h, lt)) in rw (h, large) refl

@@ -40,10 +40,6 @@ abbrev pub ◌>>=◌ : {A B E : Type 0} → Result A E → (A → Result B E) �
 abbrev pub is_numeral : List ℕ → Bool
 is_numeral word = not (length word == 0) && (not (slice_index word 0 == 48) || (length word == 1)) && list_all is_ascii_digit word
 
--- a number that is at most 18,446,744,073,709,551,615
-abbrev pub within : ℕ → Option ℕ
-within n = if nat_lt n (2 ^ 64) then Some n else None
-
 -- the number that a word writes, which is at most 18,446,744,073,709,551,615
 abbrev pub number_in : List ℕ → Option ℕ
 number_in word = if is_numeral word && nat_lt (digits_value 10 word) (2 ^ 64) then Some (digits_value 10 word) else None

@@ -1,9 +1,8 @@
 //! Numbers and transactions in a text.
-ghost use Rattle.std.specs.Prelude.{◌≡◌, ◌+◌, ◌-◌, ◌*◌, ◌++◌, ◌∷◌, [], decimal, IsTrue, OnOk, OnErr};
-ghost use Rattle.std.specs.Str.Parse.{digits_value};
+ghost use Rattle.std.specs.Prelude.{◌≡◌, ◌++◌, ◌∷◌, [], decimal, OnOk, OnErr};
 ghost use Rattle.std.specs.Char.{is_ascii_digit};
 ghost use Rattle.std.specs.List.{list_all};
-ghost use Rattle.text_words.specs.PayloadWords.{is_numeral, within, number_in};
+ghost use Rattle.text_words.specs.PayloadWords.{is_numeral, number_in};
 ghost use Rattle.tcs_terms.specs.Appends.{Begins};
 ghost use Rattle.text_words.specs.Texts.{txn_text};
 
@@ -23,41 +22,17 @@ pub fn is_numeral(word: &[u8]) -> bool
     !word.is_empty() && (word[0] != b'0' || word.len() == 1) && are_digits(word)
 }
 
-/// A number with one more digit behind it, where that fits 64 bits.
-fn with_digit(number: u64, digit: u8) -> Option<u64>
-    requires { IsTrue (is_ascii_digit digit) }
-    ensures { result ≡ within (number * 10 + (digit - 48)) }
-{
-    match number.checked_mul(10) {
-        Some(tens) => tens.checked_add(u64::from(digit - b'0')),
-        None => None,
-    }
-}
-
-/// The number that digits write, where it fits 64 bits.
-fn value_of(digits: &[u8]) -> Option<u64>
-    requires { IsTrue (list_all is_ascii_digit digits.now) }
-    ensures { result ≡ within (digits_value 10 digits.now) }
-{
-    let mut number = 0;
-    for digit in digits {
-        match with_digit(number, *digit) {
-            Some(next) => number = next,
-            None => return None,
-        }
-    }
-    Some(number)
-}
-
 /// The number that a word writes, where the word has the form of a number and it is at most 18,446,744,073,709,551,615.
 pub fn read_number(word: &[u8]) -> Option<u64>
     ensures { result ≡ number_in word.now }
 {
-    if is_numeral(word) {
-        value_of(word)
-    } else {
-        None
+    if !is_numeral(word) {
+        return None;
     }
+    let Ok(text) = str::from_utf8(word) else {
+        return None;
+    };
+    text.parse().ok()
 }
 
 /// Appends these bytes. After want of memory the buffer begins with what it held.
