@@ -21,9 +21,8 @@ use Rattle.tcs_laws.specs.Writing.{seen_below}
 use Rattle.tcs_laws.proofs.ListLemmas.{all_at, find_some}
 use Rattle.tcs_laws.proofs.SightLaws.{written_read}
 use Rattle.conflict_index.specs.declared.kept.Kept.{Kept}
-use Rattle.conflict_index.specs.declared.places.Place.{Place}
 use Rattle.conflict_index.specs.Candidates.{places_of, places_above, places_in, objects_in}
-use Rattle.conflict_index.specs.Keeping.{place, place_cmp, object_cmp, padded, all_kept, AreObjectsOf}
+use Rattle.conflict_index.specs.Keeping.{place, place_cmp, all_kept, AreObjectsOf}
 use Rattle.conflict_index.proofs.Touching.{has_slot, any_more, own_looked_at, above_looked_at, range_looked_at, object_looked_at}
 
 -- what a search finds passes both its test and another
@@ -125,7 +124,7 @@ module _ (counts : Accesses → List ℕ → Bool) (unwritten : Bool) (written :
     -- the slots that are looked at for what the newer payload read by name, and for its ranges
     abbrev pub read_looks : Accesses → ℕ → ReadPart → Bool
     read_looks new slot r = counts new r.name
-        && (has_slot (places_of kept.writers r.name) slot || has_slot (places_above kept.writes (padded r.name) r.version) slot)
+        && (has_slot (places_of kept.writers r.name) slot || has_slot (places_above kept.writes r.name r.version) slot)
 
     abbrev pub range_looks : ℕ → RangePart → Bool
     range_looks slot q = has_slot (places_in kept.writers q) slot
@@ -148,7 +147,7 @@ module _ (counts : Accesses → List ℕ → Bool) (unwritten : Bool) (written :
                 let parts = and_parts (same_name r.name w.name) (nat_lt r.version version) both in
                 let one : w.name ≡ r.name = sym (same_text r.name w.name (sym parts.0)) in
                 and_from (counts new r.name) _ (subst (λ x. counts new x ≡ true) one named.0)
-                (or_right (has_slot (places_of kept.writers r.name) slot) (has_slot (places_above kept.writes (padded r.name) r.version) slot)
+                (or_right (has_slot (places_of kept.writers r.name) slot) (has_slot (places_above kept.writes r.name r.version) slot)
                 (above_looked_at kept.writes r.name r.version version slot (ltb-true r.version version parts.1) fits few
                 (subst (λ x. contains place_cmp kept.writes (place x version slot) ≡ true) one there))))
                 new.reads named.1)
@@ -158,7 +157,7 @@ module _ (counts : Accesses → List ℕ → Bool) (unwritten : Bool) (written :
                 let parts = and_parts (in_range_part w.name q) (nat_lt q.version version) both in
                 or_right (has_slot (places_in kept.writers q) slot)
                 (list_any (λ o. has_slot (places_above kept.writes o q.version) slot) (objects_in kept.objects q))
-                (object_looked_at kept.objects w.name q (λ o. has_slot (places_above kept.writes o q.version) slot) is_write.name is_range parts.0
+                (object_looked_at kept.objects w.name q (λ o. has_slot (places_above kept.writes o q.version) slot) parts.0
                 (objects.has (place w.name version slot) there)
                 (above_looked_at kept.writes w.name q.version version slot (ltb-true q.version version parts.1) fits few there)))
                 new.ranges formed.range_parts ranging.1))
@@ -176,7 +175,7 @@ module _ (counts : Accesses → List ℕ → Bool) (unwritten : Bool) (written :
                 let parts = and_parts (same_name r.name w.name) (is_some (Some r.version)) both in
                 let one : w.name ≡ r.name = sym (same_text r.name w.name (sym parts.0)) in
                 and_from (counts new r.name) _ (subst (λ x. counts new x ≡ true) one named.0)
-                (or_left (has_slot (places_of kept.writers r.name) slot) (has_slot (places_above kept.writes (padded r.name) r.version) slot)
+                (or_left (has_slot (places_of kept.writers r.name) slot) (has_slot (places_above kept.writes r.name r.version) slot)
                 (own_looked_at kept.writers r.name version slot fits few
                 (subst (λ x. contains place_cmp kept.writers (place x version slot) ≡ true) one there))))
                 new.reads named.1)
@@ -185,7 +184,7 @@ module _ (counts : Accesses → List ℕ → Bool) (unwritten : Bool) (written :
                 (λ q is_range both.
                 or_left (has_slot (places_in kept.writers q) slot)
                 (list_any (λ o. has_slot (places_above kept.writes o q.version) slot) (objects_in kept.objects q))
-                (range_looked_at kept.writers w.name version slot q is_write.name is_range
+                (range_looked_at kept.writers w.name version slot q
                 (and_parts (in_range_part w.name q) (is_some (Some q.version)) both).0 there))
                 new.ranges formed.range_parts ranging.1))
           ]

@@ -1,7 +1,7 @@
 -- Places that are kept are looked at.
-use Rattle.std.proofs.Common.{◌≡◌, ℕ, ◌^◌, ◌-◌, ◌<◌, ◌≤◌, Bool, true, false, not, ◌&&◌, ◌||◌, List, [], ◌∷◌, refl, sym, ap, ◌∙◌, subst, inl, inr, arith}
-use Rattle.std.specs.Prelude.{◌==◌, All}
-use Rattle.std.specs.List.{list_any, list_all}
+use Rattle.std.proofs.Common.{◌≡◌, ℕ, ◌^◌, ◌-◌, ◌<◌, ◌≤◌, Bool, true, false, not, List, [], ◌∷◌, refl, sym, ap, ◌∙◌, subst, inl, inr, arith}
+use Rattle.std.specs.Prelude.{◌==◌}
+use Rattle.std.specs.List.{list_any}
 use Rattle.std.specs.BTreeSet.{BTreeSet, contains, keys_between}
 use Rattle.std.specs.BTreeMap.{is_at}
 use Rattle.std.specs.BTreeMap.Range.{range_contains}
@@ -13,19 +13,16 @@ use Rattle.std.specs.Ordering.{nat_cmp, ordering_then, ordering_reverse, is_eq, 
 use Rattle.std.specs.declared.cmp.Ordering.{Ordering}
 use Rattle.std.specs.declared.cmp.Ordering.TheVariants.{Less, Equal, Greater}
 use Rattle.std.proofs.lemmas.Cmp.{nat_list_cmp_total}
-use Rattle.std.proofs.lemmas.List.Elements.{All-head, All-tail}
 use Rattle.std.proofs.lemmas.Map.Views.{any-filter_same}
 use Rattle.std.proofs.lemmas.Map.Lookups.{exact_bytes, exact_unsigned}
 use Rattle.std.proofs.lemmas.Bool.{and_parts, and_from, or_cases, or_left, or_right, eq-eqb}
-use Rattle.tcs_terms.specs.Objects.{IsName}
 use Rattle.tcs_terms.specs.Order.{name_before}
 use Rattle.tcs_terms.specs.declared.payloads.RangePart.{RangePart}
-use Rattle.tcs_terms.specs.Payloads.{IsRangePart}
 use Rattle.tcs_terms.specs.Shards.{in_range_part}
 use Rattle.conflict_index.specs.declared.places.Place.{Place}
 use Rattle.conflict_index.specs.Candidates.{places_of, places_above, places_in, objects_in}
-use Rattle.conflict_index.specs.Keeping.{place, place_at, place_cmp, object_cmp, padded, AreObjectsOf}
-use Rattle.conflict_index.proofs.Naming.{same_cmp, padded_cmp}
+use Rattle.conflict_index.specs.Keeping.{place, place_cmp, object_cmp}
+use Rattle.conflict_index.proofs.Naming.{same_cmp}
 
 -- whether a slot is among those of some places
 abbrev pub has_slot : List Place → ℕ → Bool
@@ -44,9 +41,9 @@ exact_places a b e =
     let rest : Ordering = ordering_then (nat_cmp a.version b.version) (nat_cmp a.slot b.slot) in
     let parts = both_equal (slice_cmp nat_cmp a.object b.object) rest e in
     let numbers = both_equal (nat_cmp a.version b.version) (nat_cmp a.slot b.slot) (ap is_eq parts.1) in
-    let by_object : List ℕ → Place = λ o. place_at o a.version a.slot in
-    let by_version : ℕ → Place = λ v. place_at b.object v a.slot in
-    let by_slot : ℕ → Place = λ s. place_at b.object b.version s in
+    let by_object : List ℕ → Place = λ o. place o a.version a.slot in
+    let by_version : ℕ → Place = λ v. place b.object v a.slot in
+    let by_slot : ℕ → Place = λ s. place b.object b.version s in
     ap by_object (exact_bytes a.object b.object parts.0)
     ∙ ap by_version (exact_unsigned a.version b.version numbers.0) ∙ ap by_slot (exact_unsigned a.slot b.slot numbers.1)
 
@@ -104,29 +101,29 @@ not_lt_pairs a b c d high later = go (nat_cmp a b) (ranks a b) where
 -- a place of an object lies between one before it and the last of the object
 between_own : (object : List ℕ) (low first version slot : ℕ) → low ≤ version → (low ≡ version → first ≤ slot)
     → version < 2 ^ 64 → slot < 2 ^ 16
-    → range_contains place_cmp (Included (place_at object low first)) (Included (place_at object (2 ^ 64 - 1) 65535)) (place_at object version slot) ≡ true
+    → range_contains place_cmp (Included (place object low first)) (Included (place object (2 ^ 64 - 1) 65535)) (place object version slot) ≡ true
 between_own object low first version slot above later fits few =
     let same = same_cmp object in
-    let start : is_le (place_cmp (place_at object low first) (place_at object version slot)) ≡ true =
+    let start : is_le (place_cmp (place object low first) (place object version slot)) ≡ true =
     rw same (le_pairs low version first slot above later) in
-    let end : not (is_lt (place_cmp (place_at object (2 ^ 64 - 1) 65535) (place_at object version slot))) ≡ true =
+    let end : not (is_lt (place_cmp (place object (2 ^ 64 - 1) 65535) (place object version slot))) ≡ true =
     rw same (not_lt_pairs (2 ^ 64 - 1) version 65535 slot (omega arith) (λ _. omega arith)) in
-    and_from (is_le (place_cmp (place_at object low first) (place_at object version slot)))
-    (not (is_lt (place_cmp (place_at object (2 ^ 64 - 1) 65535) (place_at object version slot)))) start end
+    and_from (is_le (place_cmp (place object low first) (place object version slot)))
+    (not (is_lt (place_cmp (place object (2 ^ 64 - 1) 65535) (place object version slot)))) start end
 
 -- each place of an object is looked at, and each one above a version
 pub own_looked_at : (places : BTreeSet Place) (name : List ℕ) (version slot : ℕ) → version < 2 ^ 64 → slot < 2 ^ 16
     → contains place_cmp places (place name version slot) ≡ true → has_slot (places_of places name) slot ≡ true
 own_looked_at places name version slot fits few kept =
     looked_at places (Included (place name 0 0)) (Included (place name (2 ^ 64 - 1) 65535)) (place name version slot) kept
-    (between_own (padded name) 0 0 version slot (omega arith) (λ _. omega arith) fits few)
+    (between_own name 0 0 version slot (omega arith) (λ _. omega arith) fits few)
 
 pub above_looked_at : (places : BTreeSet Place) (name : List ℕ) (low version slot : ℕ) → low < version → version < 2 ^ 64
     → slot < 2 ^ 16 → contains place_cmp places (place name version slot) ≡ true
-    → has_slot (places_above places (padded name) low) slot ≡ true
+    → has_slot (places_above places name low) slot ≡ true
 above_looked_at places name low version slot above fits few kept =
-    looked_at places (Included (place_at (padded name) low 65535)) (Included (place name (2 ^ 64 - 1) 65535)) (place name version slot) kept
-    (between_own (padded name) low 65535 version slot (omega arith) (λ same. absurd (omega arith)) fits few)
+    looked_at places (Included (place name low 65535)) (Included (place name (2 ^ 64 - 1) 65535)) (place name version slot) kept
+    (between_own name low 65535 version slot (omega arith) (λ same. absurd (omega arith)) fits few)
 
 -- what stands at or after the beginning of a range, and before its end
 from_start : (o rest : Ordering) → not (is_lt o) ≡ true → is_le rest ≡ true → is_le (ordering_then (ordering_reverse o) rest) ≡ true
@@ -141,22 +138,22 @@ before_end Greater rest e = absurd (let no : false ≡ true = e in cc)
 
 -- how the ends of a range compare to an object
 record Ends (name : List ℕ) (q : RangePart) : Type 0 where
-  start : slice_cmp nat_cmp (padded q.from) (padded name) ≡ ordering_reverse (slice_cmp nat_cmp name q.from)
-  end : slice_cmp nat_cmp (padded q.upto) (padded name) ≡ ordering_reverse (slice_cmp nat_cmp name q.upto)
+  start : slice_cmp nat_cmp q.from name ≡ ordering_reverse (slice_cmp nat_cmp name q.from)
+  end : slice_cmp nat_cmp q.upto name ≡ ordering_reverse (slice_cmp nat_cmp name q.upto)
 
-ends_of : (name : List ℕ) (q : RangePart) → IsName name → IsRangePart q → Ends name q
-ends_of name q is_name is_range = record {
-  start = padded_cmp q.from name is_range.from is_name ∙ nat_list_cmp_total.antisymm q.from name;
-  end = padded_cmp q.upto name is_range.upto is_name ∙ nat_list_cmp_total.antisymm q.upto name;
+ends_of : (name : List ℕ) (q : RangePart) → Ends name q
+ends_of name q = record {
+  start = nat_list_cmp_total.antisymm q.from name;
+  end = nat_list_cmp_total.antisymm q.upto name;
 }
 
 -- the places of an object of a range are looked at, and so is the object
-pub range_looked_at : (places : BTreeSet Place) (name : List ℕ) (version slot : ℕ) (q : RangePart) → IsName name → IsRangePart q
+pub range_looked_at : (places : BTreeSet Place) (name : List ℕ) (version slot : ℕ) (q : RangePart)
     → in_range_part name q ≡ true → contains place_cmp places (place name version slot) ≡ true
     → has_slot (places_in places q) slot ≡ true
-range_looked_at places name version slot q is_name is_range inside kept =
+range_looked_at places name version slot q inside kept =
     let parts = and_parts (not (name_before name q.from)) (name_before name q.upto) inside in
-    let ends = ends_of name q is_name is_range in
+    let ends = ends_of name q in
     let rest : Ordering = ordering_then (nat_cmp 0 version) (nat_cmp 0 slot) in
     let start = ends.start in
     let end = ends.end in
@@ -178,24 +175,24 @@ not_le_reverse Less e = refl
 not_le_reverse Equal e = absurd (let no : false ≡ true = e in cc)
 not_le_reverse Greater e = absurd (let no : false ≡ true = e in cc)
 
-pub object_looked_at : (objects : BTreeSet (List ℕ)) (name : List ℕ) (q : RangePart) (f : List ℕ → Bool) → IsName name
-    → IsRangePart q → in_range_part name q ≡ true → contains object_cmp objects (padded name) ≡ true → f (padded name) ≡ true
+pub object_looked_at : (objects : BTreeSet (List ℕ)) (name : List ℕ) (q : RangePart) (f : List ℕ → Bool)
+    → in_range_part name q ≡ true → contains object_cmp objects name ≡ true → f name ≡ true
     → list_any f (objects_in objects q) ≡ true
-object_looked_at objects name q f is_name is_range inside kept found =
+object_looked_at objects name q f inside kept found =
     let parts = and_parts (not (name_before name q.from)) (name_before name q.upto) inside in
-    let ends = ends_of name q is_name is_range in
+    let ends = ends_of name q in
     let start = ends.start in
     let end = ends.end in
-    let above : is_le (object_cmp (padded q.from) (padded name)) ≡ true = rw start (le_reverse (slice_cmp nat_cmp name q.from) parts.0) in
-    let below : not (is_le (object_cmp (padded q.upto) (padded name))) ≡ true = rw end (not_le_reverse (slice_cmp nat_cmp name q.upto) parts.1) in
-    let between : range_contains object_cmp (Included (padded q.from)) (Excluded (padded q.upto)) (padded name) ≡ true =
-    and_from (is_le (object_cmp (padded q.from) (padded name))) (not (is_le (object_cmp (padded q.upto) (padded name)))) above below in
-    any_more (is_at (object_cmp (padded name))) f
-    (λ o same. let one : padded name ≡ o = exact_bytes (padded name) o (is_equal (object_cmp (padded name) o) same) in subst (λ x. f x ≡ true) one found)
+    let above : is_le (object_cmp q.from name) ≡ true = rw start (le_reverse (slice_cmp nat_cmp name q.from) parts.0) in
+    let below : not (is_le (object_cmp q.upto name)) ≡ true = rw end (not_le_reverse (slice_cmp nat_cmp name q.upto) parts.1) in
+    let between : range_contains object_cmp (Included q.from) (Excluded q.upto) name ≡ true =
+    and_from (is_le (object_cmp q.from name)) (not (is_le (object_cmp q.upto name))) above below in
+    any_more (is_at (object_cmp name)) f
+    (λ o same. let one : name ≡ o = exact_bytes name o (is_equal (object_cmp name o) same) in subst (λ x. f x ≡ true) one found)
     (objects_in objects q)
-    (any-filter_same (is_at (object_cmp (padded name))) (range_contains object_cmp (Included (padded q.from)) (Excluded (padded q.upto))) true
-    (λ o same. let one : padded name ≡ o = exact_bytes (padded name) o (is_equal (object_cmp (padded name) o) same) in
-    subst (λ x. range_contains object_cmp (Included (padded q.from)) (Excluded (padded q.upto)) x ≡ true) one between)
+    (any-filter_same (is_at (object_cmp name)) (range_contains object_cmp (Included q.from) (Excluded q.upto)) true
+    (λ o same. let one : name ≡ o = exact_bytes name o (is_equal (object_cmp name o) same) in
+    subst (λ x. range_contains object_cmp (Included q.from) (Excluded q.upto) x ≡ true) one between)
     objects.keys ∙ kept) where
       is_equal : (o : Ordering) → is_eq o ≡ true → o ≡ Equal
       is_equal Equal e = refl

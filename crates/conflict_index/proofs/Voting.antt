@@ -1,9 +1,9 @@
 -- The search of an index gives the vote over the rows that it stands for.
-use Rattle.std.proofs.Common.{◌≡◌, ℕ, ◌^◌, ◌<◌, Bool, true, false, not, ◌&&◌, ◌||◌, cond, List, [], ◌∷◌, refl, sym, ap, ◌∙◌, subst, inl, inr}
-use Rattle.std.specs.Prelude.{◌==◌, nat_lt, Option, Some, None, All, IfSome, IsTrue, fold}
+use Rattle.std.proofs.Common.{◌≡◌, ℕ, ◌^◌, ◌<◌, Bool, true, false, not, ◌&&◌, ◌||◌, cond, List, [], ◌∷◌, refl, subst, inl, inr}
+use Rattle.std.specs.Prelude.{◌==◌, nat_lt, Option, Some, None, All, IfSome, IsTrue}
 use Rattle.std.specs.List.{list_any, list_all}
 use Rattle.std.specs.BTreeSet.{BTreeSet}
-use Rattle.std.proofs.lemmas.Bool.{and_parts, or_cases, or_left, or_right, eqb-true, ltb-true, not-true}
+use Rattle.std.proofs.lemmas.Bool.{and_parts, or_cases, or_left, or_right, eqb-true, ltb-true}
 use Rattle.std.proofs.lemmas.List.Elements.{All-head, All-tail}
 use Rattle.tcs_terms.specs.declared.logs.Row.{Row}
 use Rattle.tcs_terms.specs.declared.logs.Mark.{Mark}
@@ -20,7 +20,7 @@ use Rattle.tcs_laws.specs.Votes.{clashes, refuses, refuses_by, vote_on}
 use Rattle.conflict_index.specs.declared.kept.Kept.{Kept}
 use Rattle.conflict_index.specs.declared.places.Place.{Place}
 use Rattle.conflict_index.specs.Candidates.{clashes_at, lower, places_of, places_above, places_in, objects_in, lowest_at, lowest_by_read, lowest_by_range, lowest_by_reads, lowest_by_ranges, lowest_by_writes, lowest_ranged, lowest_in_way, vote_at}
-use Rattle.conflict_index.specs.Keeping.{Keeps, KeepsRow, IsIndexOf, AreObjectsOf, padded}
+use Rattle.conflict_index.specs.Keeping.{Keeps, KeepsRow, IsIndexOf, AreObjectsOf}
 use Rattle.conflict_index.proofs.Settling.{Settles, settles_one, settles_none, settles_then, settles_each, settles_if}
 use Rattle.conflict_index.proofs.Finding.{vote_by_lowest}
 use Rattle.conflict_index.proofs.Touching.{has_slot}
@@ -95,7 +95,7 @@ module _ (tests : Tests) (counts : Accesses → List ℕ → Bool) (unwritten : 
         (λ slot. read_looks counts unwritten written kept new slot r)
     settles_read r =
         settles_if clash (counts new r.name)
-        (settles_then (settles_at (places_of kept.writers r.name)) (settles_at (places_above kept.writes (padded r.name) r.version)))
+        (settles_then (settles_at (places_of kept.writers r.name)) (settles_at (places_above kept.writes r.name r.version)))
 
     settles_range : (q : RangePart) → Settles clash (lowest_by_range tests rows new kept q) (λ slot. range_looks counts unwritten written kept slot q)
     settles_range q =

@@ -14,7 +14,7 @@ use Rattle.tcs_laws.specs.Certification.{Tests}
 use Rattle.tcs_laws.specs.Votes.{clashes, vote_by}
 use Rattle.conflict_index.specs.declared.kept.Kept.{Kept}
 use Rattle.conflict_index.specs.declared.places.Place.{Place}
-use Rattle.conflict_index.specs.Keeping.{padded, place, place_at, place_cmp, object_cmp}
+use Rattle.conflict_index.specs.Keeping.{place, place_cmp, object_cmp}
 
 -- whether the row of a slot clashes with a payload
 abbrev pub clashes_at : Tests → List Row → Accesses → ℕ → Bool
@@ -32,7 +32,7 @@ places_of places name = keys_between place_cmp (Included (place name 0 0)) (Incl
 -- the places of an object above a version
 abbrev pub places_above : BTreeSet Place → List ℕ → ℕ → List Place
 places_above places object version =
-    keys_between place_cmp (Included (place_at object version 65535)) (Included (place_at object (2 ^ 64 - 1) 65535)) places
+    keys_between place_cmp (Included (place object version 65535)) (Included (place object (2 ^ 64 - 1) 65535)) places
 
 -- the places of all objects of a range
 abbrev pub places_in : BTreeSet Place → RangePart → List Place
@@ -40,7 +40,7 @@ places_in places q = keys_between place_cmp (Included (place q.from 0 0)) (Exclu
 
 -- the objects of a range
 abbrev pub objects_in : BTreeSet (List ℕ) → RangePart → List (List ℕ)
-objects_in objects q = keys_between object_cmp (Included (padded q.from)) (Excluded (padded q.upto)) objects
+objects_in objects q = keys_between object_cmp (Included q.from) (Excluded q.upto) objects
 
 module _ (tests : Tests) (rows : List Row) (new : Accesses) where
   -- the lowest slot that clashes, with one slot more looked at
@@ -54,7 +54,7 @@ module _ (tests : Tests) (rows : List Row) (new : Accesses) where
   -- with those of the live writers of an object, and of those who wrote it above the version that was seen
   abbrev pub lowest_by_read : Kept → ReadPart → Option ℕ → Option ℕ
   lowest_by_read kept r best =
-      lowest_at (places_above kept.writes (padded r.name) r.version) (lowest_at (places_of kept.writers r.name) best)
+      lowest_at (places_above kept.writes r.name r.version) (lowest_at (places_of kept.writers r.name) best)
 
   -- with those of the live writers of all objects of a range, and of those who wrote one above the version of the range
   abbrev pub lowest_by_range : Kept → RangePart → Option ℕ → Option ℕ

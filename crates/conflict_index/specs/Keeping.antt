@@ -1,11 +1,10 @@
 -- What an index keeps of the rows that it stands for.
-use Rattle.std.specs.Prelude.{ℕ, ◌^◌, ◌-◌, Bool, true, false, not, ◌&&◌, ◌||◌, ◌==◌, nat_lt, IsTrue, All, IfSome, List, [], ◌∷◌, ◌++◌, length, replicate}
+use Rattle.std.specs.Prelude.{ℕ, ◌^◌, Bool, true, false, not, ◌&&◌, ◌||◌, ◌==◌, nat_lt, IsTrue, All, IfSome, List, [], ◌∷◌, length}
 use Rattle.std.specs.List.{list_all}
 use Rattle.std.specs.BTreeSet.{BTreeSet, contains}
 use Rattle.std.specs.Cmp.Lexicographic.{slice_cmp}
 use Rattle.std.specs.Ordering.{nat_cmp, ordering_then}
 use Rattle.std.specs.declared.cmp.Ordering.{Ordering}
-use Rattle.tcs_terms.specs.declared.limits.TheConstants.{MAX_NAME}
 use Rattle.tcs_terms.specs.declared.logs.Row.{Row}
 use Rattle.tcs_terms.specs.declared.logs.Mark.{Mark}
 use Rattle.tcs_terms.specs.declared.logs.Mark.TheVariants.{Undecided, Committed, Aborted}
@@ -15,16 +14,9 @@ use Rattle.tcs_terms.specs.Payloads.{Accesses, IsPayload}
 use Rattle.conflict_index.specs.declared.kept.Kept.{Kept}
 use Rattle.conflict_index.specs.declared.places.Place.{Place}
 
--- a name filled up with zeros to the length of the longest one
-abbrev pub padded : List ℕ → List ℕ
-padded name = name ++ replicate (MAX_NAME - length name) 0
-
 -- the place of an object at a version and a slot
-abbrev pub place_at : List ℕ → ℕ → ℕ → Place
-place_at object version slot = record { object = object; version = version; slot = slot }
-
 abbrev pub place : List ℕ → ℕ → ℕ → Place
-place name version slot = place_at (padded name) version slot
+place object version slot = record { object = object; version = version; slot = slot }
 
 -- places stand in the order of objects, then of versions, and then of slots
 abbrev pub place_cmp : Place → Place → Ordering

@@ -3,14 +3,14 @@
 use crate::places::Place;
 use std::alloc::Global;
 use std::collections::BTreeSet;
-use tcs_terms::Slot;
+use tcs_terms::{Name, Slot};
 
 /// What an index keeps of the rows that it stands for. A row is live while it is undecided and may still commit. More
 /// may be kept, as what is left of a row for which memory ran out: a vote looks at the row of each slot that it finds.
 #[derive(Debug, Drop)]
 pub struct Kept {
     /// The objects of `writes`. One stays when no row writes it any more.
-    pub objects: BTreeSet<[u8; 32]>,
+    pub objects: BTreeSet<Name>,
     /// What rows write that are not aborted.
     pub writes: BTreeSet<Place>,
     /// What live rows write.

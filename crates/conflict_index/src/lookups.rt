@@ -1,13 +1,13 @@
 //! The lowest slot that clashes among the rows in a payload's way.
 ghost use Rattle.std.specs.Prelude.{◌≡◌, ◌^◌, ◌-◌, IsTrue, fold, if◌then◌else◌};
-ghost use Rattle.tcs_terms.specs.Payloads.{IsPayload, IsRangePart};
+ghost use Rattle.tcs_terms.specs.Payloads.{IsPayload};
 ghost use Rattle.tcs_terms.specs.Order.{name_before};
 ghost use Rattle.conflict_index.specs.Candidates.{lowest_at, lowest_by_read, lowest_by_range, lowest_by_reads, lowest_by_ranges, lowest_by_writes, lowest_ranged, lowest_in_way, places_of, places_above, places_in};
-ghost use Rattle.conflict_index.specs.Keeping.{place_at, slots_rise};
+ghost use Rattle.conflict_index.specs.Keeping.{place, slots_rise};
 
 use crate::candidates::{Query, lower, lowest_before, lowest_to};
 use crate::kept::Kept;
-use crate::places::{Place, object_of, place_of};
+use crate::places::{Place, place_of};
 use std::collections::BTreeSet;
 use tcs_laws::{BySight, Certifier};
 use tcs_terms::{Name, Payload, RangePart, ReadPart, Row, Slot, WritePart};
@@ -23,8 +23,7 @@ fn lowest_of<C: Certifier>(
     requires { IsTrue (slots_rise query.rows.now) }
     ensures { result ≡ lowest_at C.tests query.entry.rows.now query.entry.new.now (places_of places.now name.now) best }
 {
-    let first = place_of(name, 0, 0);
-    lowest_to::<C>(query, places, first, last_of(first.object), best)
+    lowest_to::<C>(query, places, place_of(name, 0, 0), last_of(name), best)
 }
 
 /// With those at the places of one object above a version.
@@ -32,30 +31,22 @@ fn lowest_of<C: Certifier>(
 fn lowest_above<C: Certifier>(
     query: Query<'_>,
     places: &BTreeSet<Place>,
-    object: [u8; 32],
+    object: &Name,
     version: u64,
     best: Option<Slot>,
 ) -> Option<Slot>
     requires { IsTrue (slots_rise query.rows.now) }
-    ensures { result ≡ lowest_at C.tests query.entry.rows.now query.entry.new.now (places_above places.now object version) best }
+    ensures { result ≡ lowest_at C.tests query.entry.rows.now query.entry.new.now (places_above places.now object.now version) best }
 {
-    let from = Place {
-        object,
-        version,
-        slot: Slot::MAX,
-    };
+    let from = place_of(object, version, Slot::MAX);
     lowest_to::<C>(query, places, from, last_of(object), best)
 }
 
 /// The greatest place of an object.
-fn last_of(object: [u8; 32]) -> Place
-    ensures { result ≡ place_at object (2 ^ 64 - 1) 65535 }
+fn last_of(object: &Name) -> Place
+    ensures { result ≡ place object.now (2 ^ 64 - 1) 65535 }
 {
-    Place {
-        object,
-        version: u64::MAX,
-        slot: Slot::MAX,
-    }
+    place_of(object, u64::MAX, Slot::MAX)
 }
 
 /// With those at the places of the objects of a range.
@@ -67,7 +58,6 @@ fn lowest_in<C: Certifier>(
     best: Option<Slot>,
 ) -> Option<Slot>
     requires rise { IsTrue (slots_rise query.rows.now) }
-    requires formed { IsRangePart range.now }
     requires whole { IsTrue (name_before range.now.from range.now.upto) }
     ensures { result ≡ lowest_at C.tests query.entry.rows.now query.entry.new.now (places_in places.now range.now) best }
 {
@@ -87,13 +77,7 @@ fn lowest_by_read<C: Certifier>(
     ensures { result ≡ lowest_by_read C.tests query.entry.rows.now query.entry.new.now kept.now read.now best }
 {
     let live = lowest_of::<C>(query, &kept.writers, &read.name, best);
-    lowest_above::<C>(
-        query,
-        &kept.writes,
-        object_of(&read.name),
-        read.version,
-        live,
-    )
+    lowest_above::<C>(query, &kept.writes, &read.name, read.version, live)
 }
 
 /// With those that write what was read by a range.
@@ -105,17 +89,16 @@ fn lowest_by_range<C: Certifier>(
     best: Option<Slot>,
 ) -> Option<Slot>
     requires rise { IsTrue (slots_rise query.rows.now) }
-    requires formed { IsRangePart range.now }
     requires whole { IsTrue (name_before range.now.from range.now.upto) }
     ensures { result ≡ lowest_by_range C.tests query.entry.rows.now query.entry.new.now kept.now range.now best }
 {
     let live = lowest_in::<C>(query, &kept.writers, range, best);
     let version = range.version;
     kept.objects
-        .range(object_of(&range.from)..object_of(&range.upto))
+        .range(range.from.again()..range.upto.again())
         .fold(
             live,
-            |best, object| lowest_above::<C>(query, &kept.writes, *object, version, best),
+            |best, object| lowest_above::<C>(query, &kept.writes, object, version, best),
         )
 }
 

@@ -8,7 +8,7 @@ ghost use Rattle.conflict_index.specs.Keeping.{place, place_cmp, object_cmp, all
 use crate::places::{Place, place_of};
 use std::collections::BTreeSet;
 use tcs_laws::BySight;
-use tcs_terms::{OutOfMemory, Payload, ReadPart, Slot, WritePart};
+use tcs_terms::{Name, OutOfMemory, Payload, ReadPart, Slot, WritePart};
 
 /// Keeps the place of each object that a row writes.
 pub fn keep_writes(
@@ -28,7 +28,7 @@ pub fn keep_writes(
 
 /// Keeps the place of each object that a row writes, and the object.
 pub fn keep_written(
-    objects: &mut BTreeSet<[u8; 32]>,
+    objects: &mut BTreeSet<Name>,
     places: &mut BTreeSet<Place>,
     parts: &[WritePart],
     version: u64,
@@ -108,7 +108,7 @@ fn keep(places: &mut BTreeSet<Place>, place: Place) -> Result<(), OutOfMemory>
     Ok(())
 }
 
-fn keep_object(objects: &mut BTreeSet<[u8; 32]>, object: [u8; 32]) -> Result<(), OutOfMemory>
+fn keep_object(objects: &mut BTreeSet<Name>, object: Name) -> Result<(), OutOfMemory>
     ensures grows { Grows object_cmp objects.old objects.new }
     ensures kept { OnOk result (IsTrue (contains object_cmp objects.new object)) }
 {
@@ -117,7 +117,7 @@ fn keep_object(objects: &mut BTreeSet<[u8; 32]>, object: [u8; 32]) -> Result<(),
 }
 
 fn keep_with_object(
-    objects: &mut BTreeSet<[u8; 32]>,
+    objects: &mut BTreeSet<Name>,
     places: &mut BTreeSet<Place>,
     place: Place,
 ) -> Result<(), OutOfMemory>
@@ -125,7 +125,7 @@ fn keep_with_object(
     ensures grows { Grows place_cmp places.old places.new }
     ensures kept { OnOk result (IsTrue (contains place_cmp places.new place)) }
 {
-    keep_object(objects, place.object)?;
+    keep_object(objects, place.object.again())?;
     keep(places, place)
 }
 

@@ -1,8 +1,7 @@
 -- One more part is gone, and all before it stay so.
-use Rattle.std.proofs.Common.{arith, ap, sym, ◌∙◌, subst}
-use Rattle.std.specs.BTreeSet.{contains}
+use Rattle.std.proofs.Common.{arith}
 use Rattle.conflict_index.specs.Change.{ChangesSlot}
-use Rattle.conflict_index.specs.Keeping.{place, place_cmp}
+use Rattle.conflict_index.specs.Keeping.{place}
 use Rattle.conflict_index.proofs.Growing.{changes_then, gone_more}
 use Rattle.conflict_index.proofs.place_sets.forget_writes.Goals as goal
 
