@@ -90,7 +90,7 @@ read_best [] rise name = refl
 read_best (r ∷ rs) rise name = read_rows name (r ∷ rs) rise None tt
 
 -- what a store keeps at the bytes of a name is what is read of it
-pub read_kept : (store : VersionStore) (rows : List Row) → StandsFor store rows → SlotsAscend rows → (bytes name : List ℕ) → bytes ≡ name
-    → (kept : Option Kept) → kept ≡ kept_at store.writes bytes → reading kept ≡ read_of rows name
-read_kept store rows stands rise bytes name same kept found =
-    ap reading (found ∙ ap (kept_at store.writes) same ∙ stands.keeps name) ∙ read_best rows rise name
+pub read_kept : (store : VersionStore) (rows : List Row) → StandsFor store rows → SlotsAscend rows → (name : List ℕ)
+    → (kept : Option Kept) → kept ≡ kept_at store.writes name → reading kept ≡ read_of rows name
+read_kept store rows stands rise name kept found =
+    ap reading (found ∙ stands.keeps name) ∙ read_best rows rise name

@@ -1,6 +1,6 @@
 -- What is kept of each object once one of them has another write.
 use Rattle.std.proofs.Common.{◌≡◌, ℕ, Bool, true, false, cond, List, sym, ◌∙◌, subst, inl, inr}
-use Rattle.std.specs.Prelude.{Option, Vec}
+use Rattle.std.specs.Prelude.{Option}
 use Rattle.std.specs.BTreeMap.{BTreeMap, UpdatesBy}
 use Rattle.std.specs.Map.{lookup, IsKeyTest, AreApart, KeepsOthers}
 use Rattle.std.specs.Ordering.{is_eq, nat_cmp}
@@ -24,11 +24,11 @@ apart bs cs ks differ same =
     ∙ sym (nat_list_eq_equiv.congr bs ks cs (sym (is_eq-slice_cmp bs ks) ∙ same)) ∙ differ
 
 -- a map that has a write at one name has what it had at the others
-pub kept_after : {Y : Type 0} (bs : List ℕ) (m n : BTreeMap (Vec ℕ Y) Kept) (w : Option Kept)
-    → UpdatesBy (λ x y. slice_cmp nat_cmp x.items y.items) (λ k. slice_cmp nat_cmp bs k.items) m n w
+pub kept_after : (bs : List ℕ) (m n : BTreeMap (List ℕ) Kept) (w : Option Kept)
+    → UpdatesBy (slice_cmp nat_cmp) (slice_cmp nat_cmp bs) m n w
     → (cs : List ℕ) → kept_at n cs ≡ cond (same_name bs cs) w (kept_at m cs)
 kept_after bs m n w h cs = elim (cases_Bool (same_name bs cs)) [
   | inl same ↦ subst (λ l. kept_at n l ≡ w) ((bytes_decides bs cs).0 same) h.1 ∙ sym (cond-true (same_name bs cs) w (kept_at m cs) same)
-  | inr differ ↦ others_stay _ _ _ _ h.3 _ (λ x y. (eq_by_cmp_equiv nat_list_cmp_total).congr cs x.items y.items)
-      (λ k. apart bs cs k.items differ) ∙ sym (cond-false (same_name bs cs) w (kept_at m cs) differ)
+  | inr differ ↦ others_stay _ _ _ _ h.3 _ (λ x y. (eq_by_cmp_equiv nat_list_cmp_total).congr cs x y)
+      (λ k. apart bs cs k differ) ∙ sym (cond-false (same_name bs cs) w (kept_at m cs) differ)
 ]

@@ -1,5 +1,5 @@
 -- What a store keeps of each object: the committed write that goes before all others.
-use Rattle.std.specs.Prelude.{◌≡◌, ℕ, Bool, ◌&&◌, ◌||◌, ◌==◌, nat_lt, if◌then◌else◌, List, find, fold, map, Option, Some, None, IsTrue, Vec}
+use Rattle.std.specs.Prelude.{◌≡◌, ℕ, Bool, ◌&&◌, ◌||◌, ◌==◌, nat_lt, if◌then◌else◌, List, find, fold, map, Option, Some, None, IsTrue}
 use Rattle.std.specs.BTreeMap.{BTreeMap, get_by}
 use Rattle.std.specs.Ordering.{nat_cmp}
 use Rattle.std.specs.Cmp.Lexicographic.{slice_cmp}
@@ -46,8 +46,8 @@ unfoldable pub best_of : List Row → List ℕ → Option Kept
 best_of rows name = fold (λ best r. better best (write_of r name)) None rows
 
 -- what is kept of an object
-abbrev pub kept_at : {Y : Type 0} → BTreeMap (Vec ℕ Y) Kept → List ℕ → Option Kept
-kept_at writes name = get_by (λ k. slice_cmp nat_cmp name k.items) writes
+abbrev pub kept_at : BTreeMap (List ℕ) Kept → List ℕ → Option Kept
+kept_at writes name = get_by (slice_cmp nat_cmp name) writes
 
 -- what is kept of an object after a write, which may be of another object
 abbrev pub after_write : List ℕ → ℕ → ℕ → Option Kept → WritePart → Option Kept

@@ -1,7 +1,7 @@
 //! What is kept of the objects: one committed write of each.
 
 use std::collections::BTreeMap;
-use tcs_terms::{Slot, Value};
+use tcs_terms::{Name, Slot, Value};
 
 /// A committed write of an object: its version, at least 1, the slot of its row, and the value.
 #[derive(Debug, Drop)]
@@ -12,4 +12,4 @@ pub struct Kept {
 }
 
 /// The write that is kept of each object, in the order of the bytes of names.
-pub type Writes = BTreeMap<Vec<u8>, Kept>;
+pub type Writes = BTreeMap<Name, Kept>;

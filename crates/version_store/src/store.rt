@@ -66,7 +66,7 @@ impl VersionStore {
         ensures value { (rows : List Row) → StandsFor self.now rows → SlotsAscend rows
             → option_copied result.value ≡ (read_of rows name.now).value }
     {
-        match self.writes.get(name.bytes()) {
+        match self.writes.get(name) {
             None => Reading {
                 version: 0,
                 value: None,

@@ -56,14 +56,14 @@ fn take_write(
     ensures { OnOk result ((name : List ℕ) → kept_at writes.new name
         ≡ after_write name slot version (kept_at writes.old name) part.now) }
 {
-    if goes_before(version, slot, writes.get(part.name.bytes())) {
+    if goes_before(version, slot, writes.get(&part.name)) {
         let value = part.value.copy(alloc)?;
         let kept = Kept {
             version,
             slot,
             value,
         };
-        keep(alloc, writes, &part.name, kept)?;
+        keep(writes, &part.name, kept)?;
     }
     Ok(())
 }
@@ -79,15 +79,14 @@ fn goes_before(version: u64, slot: Slot, kept: Option<&Kept>) -> bool
 }
 
 /// Keeps a write of an object in place of what was kept of it.
-fn keep(alloc: Global, writes: &mut Writes, name: &Name, kept: Kept) -> Result<(), OutOfMemory>
+fn keep(writes: &mut Writes, name: &Name, kept: Kept) -> Result<(), OutOfMemory>
     ensures { OnOk result ((q : List ℕ) → kept_at writes.new q
         ≡ (if same_name name.now q then Some kept else kept_at writes.old q)) }
 {
-    match writes.get_mut(name.bytes()) {
+    match writes.get_mut(name) {
         Some(place) => *place = kept,
         None => {
-            let key = Vec::from_slice(alloc, name.bytes())?;
-            writes.insert(key, kept)?;
+            writes.insert(name.again(), kept)?;
         }
     }
     Ok(())
