@@ -1,8 +1,8 @@
 //! Puts the worked runs through the top call: each schedule of the folder that it runs in, by a source that gives at most
 //! 4,096 bytes a read, and where a line of it is bad also by sources that give 1 and 7. What is written is compared with the
-//! trace beside the schedule, byte for byte, and that is read as a trace, which has an
 //! trace beside the schedule, byte for byte, and that is read as a trace, which has an end where the replay was whole. Each
-//! run is also stepped by scan and by look-up of votes.
+//! run is also stepped twice, with votes by scan and by look-up.
+#![tactic(auto)]
 
 mod guards;
 mod names;
