@@ -1,0 +1,6 @@
+pub mod NumberLists
+pub mod MessageLines
+pub mod Steps
+pub mod RunTexts
+pub mod Turning
+pub mod Finals
