@@ -1,0 +1,4 @@
+pub mod Stops
+pub mod Texts
+pub mod Told
+pub mod Audits

@@ -1,0 +1,31 @@
+-- Each note puts its transaction last, if it has one that is new.
+use Rattle.std.proofs.Common.{◌≡◌, ℕ, ◌<◌, ◌≤◌, List, length, take, arith, sym, ap, ◌∙◌, subst}
+use Rattle.std.proofs.lemmas.List.{take_all}
+use Rattle.tcs_terms.specs.declared.ids.TxId.{TxId}
+use Rattle.protocol.specs.History.{commit_in}
+use Rattle.judge.specs.Watching.{put_next}
+use Rattle.judge.proofs.Firsts.{firsts, firsts_next, firsts_few}
+use Rattle.judge.proofs.counts.order_of.Goals as goal
+
+pub loop-note-init : goal.loop-note-init
+loop-note-init c = c.new.ensures.empty
+
+pub loop-note-preserved : goal.loop-note-preserved
+loop-note-preserved c =
+    let h = c.args.history.now in
+    let i = c.loop-note.note-index in
+    let within : i < length h = omega arith in
+    c.in_ok-put_next.ensures
+    ∙ ap (λ (ks : List TxId). put_next ks c.commit_in.result) c.loop-note.invariant
+    ∙ ap (put_next (firsts commit_in (take i h))) c.commit_in.ensures
+    ∙ sym (firsts_next commit_in h i c.note-item.result within c.note-item.is)
+
+pub returns-clause-order : goal.returns-clause-order
+returns-clause-order c =
+    c.loop-note.invariant ∙ ap (firsts commit_in) (take_all c.loop-note.note-index c.args.history.now (omega arith))
+
+pub returns-clause-few : goal.returns-clause-few
+returns-clause-few c =
+    subst (λ (ks : List TxId). length ks ≤ length c.args.history.now)
+    (sym (c.loop-note.invariant ∙ ap (firsts commit_in) (take_all c.loop-note.note-index c.args.history.now (omega arith))))
+    (firsts_few commit_in c.args.history.now)

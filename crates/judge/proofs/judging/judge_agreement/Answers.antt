@@ -1,0 +1,17 @@
+-- The clause fails first, or the verdict goes on behind it.
+use Rattle.std.proofs.Common.{◌≡◌, sym, ap, ◌∙◌, subst}
+use Rattle.std.specs.Prelude.{Option, IfOk}
+use Rattle.tcs_terms.specs.declared.ids.TxId.{TxId}
+use Rattle.judge.specs.declared.verdicts.Clause.TheVariants.{Agreement}
+use Rattle.judge.specs.declared.verdicts.Verdict.{Verdict}
+use Rattle.judge.specs.Verdicts.{unless_fails, from_legality}
+use Rattle.judge.proofs.judging.judge_agreement.Goals as goal
+
+pub returns-in-Some : goal.returns-in-Some
+returns-in-Some g c =
+    c.incorrect.ensures ∙ ap (λ (o : Option TxId). unless_fails Agreement o (from_legality g.C.Certifier.tests c.args.shards c.args.history.now)) (sym c.in-Some.is ∙ c.in_ok-disagreement.ensures)
+
+pub returns-in-None : goal.returns-in-None
+returns-in-None g c =
+    subst (λ (o : Option TxId). IfOk c.judge_legality.result (λ (v : Verdict). v ≡ unless_fails Agreement o (from_legality g.C.Certifier.tests c.args.shards c.args.history.now)))
+    (sym c.in-None.is ∙ c.in_ok-disagreement.ensures) c.judge_legality.ensures

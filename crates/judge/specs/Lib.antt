@@ -1,0 +1,3 @@
+pub mod Verdicts
+pub mod Watching
+pub mod Newest
