@@ -1,9 +1,10 @@
--- Lines of bytes.
-use Rattle.std.specs.Prelude.{◌≡◌, ℕ, ◌+◌, Bool, false, true, ◌||◌, ◌==◌, nat_lt, if◌then◌else◌, List, [], ◌∷◌, ◌++◌, length, Option, Some}
-use Rattle.schedule_text.specs.Lines.{line_feed, has_feed}
+-- Lines of bytes, of any length up to a limit.
+use Rattle.std.specs.Prelude.{◌≡◌, ℕ, ◌+◌, ◌<◌, Bool, false, true, ◌||◌, ◌==◌, nat_lt, if◌then◌else◌, List, [], ◌∷◌, ◌++◌, length, Option, Some}
+use Rattle.schedule_text.specs.declared.lines.Got.{Got}
+use Rattle.schedule_text.specs.Lines.{line_feed, has_feed, Fits, HandsOut}
 use Rattle.audit_core.specs.declared.limits.TheConstants.{MAX_LINE, MAX_TRACE}
-use Rattle.audit_core.specs.declared.texts.LineEnd.{LineEnd}
-use Rattle.audit_core.specs.declared.texts.LineEnd.TheVariants.{Whole, Long, Ended}
+use Rattle.audit_core.specs.declared.texts.TextEnd.{TextEnd}
+use Rattle.audit_core.specs.declared.texts.TextEnd.TheVariants.{Whole, Long, Ended}
 
 -- the lines that line feeds end, without these, and what stands behind the last line feed
 pub record Lines : Type 0 where
@@ -26,15 +27,31 @@ lines_of (byte ∷ bytes) =
 abbrev pub is_too_long : ℕ → List ℕ → Bool
 is_too_long used text = nat_lt MAX_LINE (length text) || nat_lt MAX_TRACE (used + length text + 1)
 
--- what each answer says of all the bytes: those of the text, those held, and those left
-abbrev pub Divides : LineEnd → ℕ → (all text held left : List ℕ) → Type 0
+-- What each answer says of all the bytes: those of the text, those held, and those left. Behind a text that is too long
+-- nothing is told of the others.
+abbrev pub Divides : TextEnd → (used : ℕ) → (all text held left : List ℕ) → Type 0
 Divides Whole used all text held left = (all ≡ text ++ line_feed ∷ (held ++ left)) × (is_too_long used text ≡ false)
-Divides Long used all text held left = (all ≡ text ++ (held ++ left)) × (is_too_long used text ≡ true)
+Divides Long used all text held left = (more : List ℕ) × (all ≡ text ++ more) × (0 < length all) × (is_too_long used text ≡ true)
 Divides Ended used all text held left = (all ≡ text) × (held ≡ []) × (left ≡ [])
 
 -- the source tells what it has left, and with it the bytes are divided so; no line feed is in the text
-pub record Yields (end : LineEnd) (used : ℕ) (all text held : List ℕ) (left : Option (List ℕ)) : Type 0 where
+pub record Yields (end : TextEnd) (used : ℕ) (all text held : List ℕ) (left : Option (List ℕ)) : Type 0 where
   pub rest : List ℕ
   pub told : left ≡ Some rest
   pub one_line : has_feed text ≡ false
   pub divided : Divides end used all text held rest
+
+-- ---- pieces
+
+-- the next piece of a line was appended to those before it
+pub record Appends (got : Got) (before after held held' : List ℕ) (left left' : Option (List ℕ)) : Type 0 where
+  pub piece : List ℕ
+  pub fits : Fits got piece
+  pub joined : after ≡ before ++ piece
+  pub hands : (rest : List ℕ) → left ≡ Some rest → HandsOut got (held ++ rest) piece held' left'
+
+-- the pieces so far, and behind them what is held and what is left, are all the bytes
+pub record Gathers (all text held : List ℕ) (left : Option (List ℕ)) : Type 0 where
+  pub rest : List ℕ
+  pub told : left ≡ Some rest
+  pub whole : all ≡ text ++ (held ++ rest)

@@ -1,60 +1,48 @@
-//! The verdict on a trace.
-ghost use Rattle.std.specs.Prelude.{◌≡◌, ◌≤◌, ◌<◌, ◌^◌, ◌-◌, ℕ, List, [], Some, length, IfOk, OnOk, IsErrOf};
+//! `audit`: a trace in, the verdict on it out.
+ghost use Rattle.std.specs.Prelude.{◌≡◌, ◌≤◌, ℕ, List, Some, IfOk, IfErr, IsErrOf};
 ghost use Rattle.tcs_io.specs.Faults.{Rose};
-ghost use Rattle.audit_core.specs.Audits.{Judged, BadLine, answer_of, at_end};
+ghost use Rattle.audit_core.specs.Audits.{Finishes, Stopped, Stayed, Tells, answer_of};
 
+use crate::printing::print_verdict;
+use crate::reading::verdict_on;
 use crate::stops::AuditStop;
-use crate::texts::{LineEnd, Texts};
-use crate::told::History;
 use judge::Verdict;
 use std::alloc::Global;
-use tcs_io::Source;
-use trace_text::{TraceFault, TraceReader};
+use tcs_io::{Sink, Source, write_all};
 
-/// Reads a trace to its end, line by line, and gives the verdict on it. What is kept is the history, and one line.
+/// Reads a trace from `input` to its end, judges it, and writes the one line of the verdict to `output`.
+///
+/// Line by line: what is kept is the history that it tells, the order, and one line.
 ///
 /// # Errors
-/// `BadTrace` exactly where the bytes are no trace, with the number of the first line that may not stand there, or that
-/// is missing. `ReadFault` comes only where the source counted a fault.
-pub fn audit<S: Source>(alloc: Global, input: &mut S) -> Result<Verdict, AuditStop>
-    ensures verdict { (bytes : List ℕ) → S.left input.old ≡ Some bytes → IfOk result (λ verdict. answer_of bytes ≡ Judged verdict) }
-    ensures end { (bytes : List ℕ) → S.left input.old ≡ Some bytes → OnOk result (S.left input.new ≡ Some []) }
-    ensures bad { (bytes : List ℕ) (line : ℕ) → S.left input.old ≡ Some bytes → IsErrOf result (AuditStop.BadTrace line) → answer_of bytes ≡ BadLine line }
-    ensures fault { IsErrOf result AuditStop.ReadFault → Rose (S.faults input.old) (S.faults input.new) }
-    ensures count { S.faults input.old ≤ S.faults input.new }
-{
-    let mut texts = Texts::begin(alloc)?;
-    let mut reader = TraceReader::new();
-    let mut history = History::new(alloc);
-    let mut text = Vec::new(alloc);
-    let mut used = 0;
-    let mut line = 1;
-    loop {
-        match texts.next_text(input, &mut text, used)? {
-            LineEnd::Long => return Err(AuditStop::BadTrace(line)),
-            LineEnd::Ended => return end(alloc, &history, &text, line),
-            LineEnd::Whole => {}
-        }
-        match reader.take(alloc, &text) {
-            Ok(item) => history.hear(item)?,
-            Err(TraceFault::Bad) => return Err(AuditStop::BadTrace(line)),
-            Err(TraceFault::OutOfMemory) => return Err(AuditStop::OutOfMemory),
-        }
-        used += text.len() as u64 + 1;
-        line += 1;
-    }
-}
+/// `BadTrace` exactly where the bytes are no trace, with the number of the first line that may not stand there, or that is
+/// missing. `ReadFault` and `WriteFault` come only where the source or the sink counted a fault. Nothing is written unless
+/// the bytes are a trace.
+pub fn audit<S: Source, K: Sink>(
+    alloc: Global,
+    input: &mut S,
+    output: &mut K,
+) -> Result<Verdict, AuditStop>
+    // What was read and written by then.
+    ensures whole { (bytes before : List ℕ) → S.left input.old ≡ Some bytes → K.held output.old ≡ Some before
+        → IfOk result (Finishes bytes before (S.left input.new) (K.held output.new)) }
+    ensures stopped { (bytes before : List ℕ) → S.left input.old ≡ Some bytes → K.held output.old ≡ Some before
+        → IfErr result (Stopped bytes before (S.left input.new) (K.held output.new)) }
 
-/// The answer at the end of the input: `rest` are the bytes behind the last line feed, and `line` is the next line's
-/// number.
-fn end(alloc: Global, history: &History, rest: &[u8], line: u32) -> Result<Verdict, AuditStop>
-    requires { length history.now.notes < 2 ^ 32 }
-    ensures verdict { IfOk result (λ verdict. at_end history.now.ended history.now (line - 1) rest.now ≡ Judged verdict) }
-    ensures bad { (number : ℕ) → IsErrOf result (AuditStop.BadTrace number) → at_end history.now.ended history.now (line - 1) rest.now ≡ BadLine number }
+    // Which answer comes, where no fault was counted: that to the bytes, unless memory runs out.
+    ensures complete { (bytes : List ℕ) → S.left input.old ≡ Some bytes
+        → Stayed (S.faults input.old) (S.faults input.new) → Stayed (K.faults output.old) (K.faults output.new)
+        → Tells (answer_of bytes) result }
+
+    // A fault is told only where it was counted.
+    ensures read { S.faults input.old ≤ S.faults input.new }
+    ensures wrote { K.faults output.old ≤ K.faults output.new }
+    ensures read_fault { IsErrOf result AuditStop.ReadFault → Rose (S.faults input.old) (S.faults input.new) }
+    ensures write_fault { IsErrOf result AuditStop.WriteFault → Rose (K.faults output.old) (K.faults output.new) }
 {
-    if history.is_ended() && rest.is_empty() {
-        Ok(history.judge(alloc)?)
-    } else {
-        Err(AuditStop::BadTrace(line))
-    }
+    let verdict = verdict_on(alloc, input)?;
+    let mut line = Vec::new(alloc);
+    print_verdict(verdict, &mut line)?;
+    write_all(output, &line)?;
+    Ok(verdict)
 }

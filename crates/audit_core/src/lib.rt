@@ -4,7 +4,11 @@
 mod auditing;
 mod limits;
 mod orders;
+mod printing;
+mod reading;
 mod stops;
+#[cfg(test)]
+mod tests;
 mod texts;
 mod told;
 
