@@ -10,7 +10,7 @@ pub fn first_difference(told: &[TxId], order: &[TxId]) -> Option<TxId>
     ensures { result ≡ first_difference told.now order.now }
 {
     let mut place = 0;
-    while place < told.len() && place < order.len() {
+    'places: while place < told.len() && place < order.len() {
         if told[place] != order[place] {
             return Some(told[place]);
         }
