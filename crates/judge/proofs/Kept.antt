@@ -39,15 +39,16 @@ kept_at before after name p updates other = updates.0 (padded other)
 put_passes : (test : Accesses → Bool) (es : List (List ℕ × Accesses)) (k : List ℕ) (p : Accesses) → test p ≡ true
     → list_all (λ e. test e.1) es ≡ true → list_all (λ e. test e.1) (insert_entry object_cmp es k p) ≡ true
 put_passes test [] k p passes each = and_from (test p) true passes refl
-put_passes test (e ∷ es) k p passes each = go (object_cmp k e.0)
+put_passes test (e ∷ es) k p passes each = go (object_cmp k e.0) (put_passes test es k p passes parts.1)
   where
     parts : (test e.1 ≡ true) × (list_all (λ (x : List ℕ × Accesses). test x.1) es ≡ true)
     parts = and_parts (test e.1) (list_all (λ (x : List ℕ × Accesses). test x.1) es) each
 
-    go : (o : Ordering) → list_all (λ x. test x.1) (match_ordering o ((k, p) ∷ e ∷ es) ((e.0, p) ∷ es) (e ∷ insert_entry object_cmp es k p)) ≡ true
-    go Less = and_from (test p) (list_all (λ (x : List ℕ × Accesses). test x.1) (e ∷ es)) passes each
-    go Equal = and_from (test p) (list_all (λ (x : List ℕ × Accesses). test x.1) es) passes parts.1
-    go Greater = and_from (test e.1) (list_all (λ (x : List ℕ × Accesses). test x.1) (insert_entry object_cmp es k p)) parts.0 (put_passes test es k p passes parts.1)
+    go : (o : Ordering) → list_all (λ x. test x.1) (insert_entry object_cmp es k p) ≡ true
+        → list_all (λ x. test x.1) (match_ordering o ((k, p) ∷ e ∷ es) ((e.0, p) ∷ es) (e ∷ insert_entry object_cmp es k p)) ≡ true
+    go Less later = and_from (test p) (list_all (λ (x : List ℕ × Accesses). test x.1) (e ∷ es)) passes each
+    go Equal later = and_from (test p) (list_all (λ (x : List ℕ × Accesses). test x.1) es) passes parts.1
+    go Greater later = and_from (test e.1) (list_all (λ (x : List ℕ × Accesses). test x.1) (insert_entry object_cmp es k p)) parts.0 later
 
 -- a payload of the same version or above covers an object that it writes
 covered_by : (name : List ℕ) (version : ℕ) (o : Option Accesses) → is_written name o ≡ true → reaches version o ≡ true → is_covered name version o ≡ true
@@ -115,8 +116,8 @@ keeps_put before after p w is_name writes below updates entries = record {
 -- an object that is among the writes is written
 pub among_writes : (ws : List WritePart) (w : WritePart) → Contains ws w → writes_name ws w.name ≡ true
 among_writes ws w there =
-    list_any_at (λ (x : WritePart). same_name x.name w.name) ws there.0 w there.1.0
-    (subst (λ (x : WritePart). same_name x.name w.name ≡ true) (sym there.1.1) ((bytes_decides w.name w.name).1 refl))
+    list_any_at (λ (x : WritePart). same_name x.name w.name) ws there.0 w there.1
+    (subst (λ (x : WritePart). same_name x.name w.name ≡ true) (sym there.2) ((bytes_decides w.name w.name).1 refl))
 
 -- no writes yet
 pub keeps_none : (newest : Newest) (p : Accesses) → KeepsWrites newest newest p []

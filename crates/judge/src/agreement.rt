@@ -6,7 +6,7 @@ ghost use Rattle.tcs_terms.specs.Logs.{same_txn};
 ghost use Rattle.protocol.specs.CorrectHistory.{agrees_after, same_cause, same_decision};
 ghost use Rattle.judge.specs.Watching.{AreDecisions, agrees_now, begun_with, decided_so, decisions_with};
 
-use crate::payloads::keep_first;
+use crate::payloads::{keep_first, keep_txn};
 use crate::watch::Watch;
 use indexmap::{IndexMap, IndexSet};
 use std::alloc::Global;
@@ -68,7 +68,7 @@ impl Decisions {
     {
         match note {
             Note::Begin { txn, .. } => {
-                self.begun.insert(*txn)?;
+                keep_txn(&mut self.begun, *txn)?;
                 Ok(true)
             }
             Note::Take { .. } | Note::ReadValue { .. } => Ok(true),

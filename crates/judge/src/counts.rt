@@ -4,6 +4,7 @@ ghost use Rattle.protocol.specs.History.{commit_in, first_of_each, order_of};
 ghost use Rattle.judge.specs.Verdicts.{abort_in, decided_in, counted};
 ghost use Rattle.judge.specs.Watching.{put_next};
 
+use crate::payloads::keep_txn;
 use crate::verdicts::Verdict;
 use crate::watch::decided_in;
 use indexmap::IndexSet;
@@ -42,10 +43,7 @@ fn put_next(txns: &mut IndexSet<TxId>, txn: Option<TxId>) -> Result<(), OutOfMem
 {
     match txn {
         None => Ok(()),
-        Some(txn) => {
-            txns.insert(txn)?;
-            Ok(())
-        }
+        Some(txn) => keep_txn(txns, txn),
     }
 }
 

@@ -51,25 +51,29 @@ fn judge_by<C: BySight>(alloc: Global, history: &[Note], shards: u8) -> Result<V
     ensures verdict { IfOk result (λ verdict. verdict ≡ verdict_on C.tests shards history.now) }
     ensures exact { IfOk result (λ verdict. SaysCorrect verdict ↔ IsCorrect C.tests shards history.now) }
 {
-    let verdict = judge_agreement::<C>(alloc, history, shards)?;
+    let order = order_of(alloc, history)?;
+    let verdict = judge_agreement::<C>(alloc, history, &order, shards)?;
     Ok(verdict)
 }
 
-/// The verdict from agreement on.
+/// The verdict from agreement on. `order` has the committed transactions.
 fn judge_agreement<C: BySight>(
     alloc: Global,
     history: &[Note],
+    order: &IndexSet<TxId>,
     shards: u8,
 ) -> Result<Verdict, OutOfMemory>
     requires some { 1 ≤ shards }
     requires few { shards ≤ MAX_SHARDS }
     requires short { length history.now < 2 ^ 32 }
+    requires order { order.now.keys ≡ order_of history.now }
+    requires listed { length order.now.keys ≤ length history.now }
     ensures { IfOk result (λ verdict. verdict ≡ verdict_on C.tests shards history.now) }
 {
     let disagreement = first_decision::<Decisions>(alloc, history, shards)?;
     match disagreement {
         Some(txn) => Ok(incorrect(Clause::Agreement, txn)),
-        None => judge_legality::<C>(alloc, history, shards),
+        None => judge_legality::<C>(alloc, history, order, shards),
     }
 }
 
@@ -77,22 +81,24 @@ fn judge_agreement<C: BySight>(
 fn judge_legality<C: BySight>(
     alloc: Global,
     history: &[Note],
+    order: &IndexSet<TxId>,
     shards: u8,
 ) -> Result<Verdict, OutOfMemory>
     requires some { 1 ≤ shards }
     requires few { shards ≤ MAX_SHARDS }
     requires short { length history.now < 2 ^ 32 }
+    requires order { order.now.keys ≡ order_of history.now }
+    requires listed { length order.now.keys ≤ length history.now }
     ensures { IfOk result (λ verdict. verdict ≡ from_legality C.tests shards history.now) }
 {
-    let order = order_of(alloc, history)?;
     let illegal = first_illegal::<C>(alloc, history, order.as_slice())?;
     match illegal {
         Some(txn) => Ok(incorrect(Clause::Legality, txn)),
-        None => judge_clashes::<C>(alloc, history, &order, shards),
+        None => judge_clashes::<C>(alloc, history, order, shards),
     }
 }
 
-/// The verdict from clash causes on. `order` has the committed transactions.
+/// The verdict from clash causes on.
 fn judge_clashes<C: Certifier>(
     alloc: Global,
     history: &[Note],

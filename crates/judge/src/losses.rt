@@ -3,6 +3,7 @@ ghost use Rattle.std.specs.Prelude.{◌≡◌, IfOk, OnOk};
 ghost use Rattle.protocol.specs.CorrectHistory.{lost_after};
 ghost use Rattle.judge.specs.Watching.{AreTaken, loss_decided, lost_now, taken_with};
 
+use crate::payloads::keep_txn;
 use crate::watch::Watch;
 use indexmap::IndexSet;
 use std::alloc::Global;
@@ -36,7 +37,7 @@ impl TakeOvers {
         match note {
             Note::Begin { .. } | Note::ReadValue { .. } => Ok(true),
             Note::Take { txn } => {
-                self.taken.insert(*txn)?;
+                keep_txn(&mut self.taken, *txn)?;
                 Ok(true)
             }
             Note::Decide { txn, decision } => Ok(self.allows(*txn, *decision)),

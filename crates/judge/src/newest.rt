@@ -89,6 +89,15 @@ fn refused_by_read<C: Certifier>(newest: &Newest, new: &Payload, read: &ReadPart
     stands_in_way::<C>(newest.get(&object_of(&read.name)), new)
 }
 
+/// Whether the newest writer of one of these objects, read by name, does.
+fn refused_by_reads<C: Certifier>(newest: &Newest, new: &Payload, reads: &[ReadPart]) -> bool
+    ensures { result ≡ list_any (refused_by_read C.tests new.now newest.now) reads.now }
+{
+    reads
+        .iter()
+        .any(|read| refused_by_read::<C>(newest, new, read))
+}
+
 /// Whether the newest writer of an object in a range does.
 #[tactic(auto, using(conflict_index::proofs::Naming::objects_forward))]
 fn refused_by_range<C: Certifier>(newest: &Newest, new: &Payload, range: &RangePart) -> bool
@@ -126,8 +135,6 @@ fn refused<C: Certifier>(newest: &Newest, new: &Payload) -> bool
     ensures refused { result ≡ refused C.tests new.now newest.now }
     ensures formed { IsPayload new.now }
 {
-    new.reads()
-        .iter()
-        .any(|read| refused_by_read::<C>(newest, new, read))
+    refused_by_reads::<C>(newest, new, new.reads())
         || refused_by_ranges::<C>(newest, new, new.ranges())
 }

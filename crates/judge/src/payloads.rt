@@ -1,8 +1,8 @@
 //! The payloads with which transactions began.
 ghost use Rattle.std.specs.Prelude.{◌≡◌, IfOk, OnOk};
-ghost use Rattle.judge.specs.Watching.{ArePayloads, payloads_with, with_first};
+ghost use Rattle.judge.specs.Watching.{ArePayloads, payloads_with, with_first, with_txn};
 
-use indexmap::IndexMap;
+use indexmap::{IndexMap, IndexSet};
 use std::alloc::Global;
 use tcs_terms::{Note, OutOfMemory, Payload, TxId};
 
@@ -20,6 +20,14 @@ pub fn keep_first<V: Drop>(
     if !kept.contains_key(&txn) {
         kept.insert(txn, value)?;
     }
+    Ok(())
+}
+
+/// Keeps a transaction, unless it is kept.
+pub fn keep_txn(kept: &mut IndexSet<TxId>, txn: TxId) -> Result<(), OutOfMemory>
+    ensures { OnOk result (kept.new.keys ≡ with_txn kept.old.keys txn) }
+{
+    kept.insert(txn)?;
     Ok(())
 }
 

@@ -8,7 +8,7 @@ use Rattle.judge.proofs.Firsts.{firsts, firsts_next, firsts_few}
 use Rattle.judge.proofs.counts.aborted_of.Goals as goal
 
 pub loop-note-init : goal.loop-note-init
-loop-note-init c = c.new.ensures.empty
+loop-note-init c = c.new-txns.ensures.empty
 
 pub loop-note-preserved : goal.loop-note-preserved
 loop-note-preserved c =

@@ -8,7 +8,7 @@ use Rattle.judge.proofs.Keeping.{payloads_none, payloads_step}
 use Rattle.judge.proofs.payloads.payloads_of.Goals as goal
 
 pub loop-note-init : goal.loop-note-init
-loop-note-init c = payloads_none _ c.new.ensures.empty
+loop-note-init c = payloads_none _ c.new-payloads.ensures.empty
 
 pub loop-note-preserved : goal.loop-note-preserved
 loop-note-preserved c =

@@ -5,7 +5,7 @@ use Rattle.judge.proofs.Failing.{front_at, failing_next, decision_here, decision
 use Rattle.judge.proofs.watch.first_decision.Goals as goal
 
 pub loop-note-init : goal.loop-note-init
-loop-note-init g c = record { stands = c.fresh.ensures; found = refl }
+loop-note-init g c = record { stands = c.fresh-watch.ensures; found = refl }
 
 pub loop-note-preserved : goal.loop-note-preserved
 loop-note-preserved g c =
