@@ -1,5 +1,5 @@
 -- The verdict is that a history is correct exactly where each clause holds.
-use Rattle.std.proofs.Common.{◌≡◌, ◌↔◌, ℕ, Bool, true, false, not, List, [], ◌∷◌, ◌++◌, refl, sym, ap, ◌∙◌, subst, inl, inr}
+use Rattle.std.proofs.Common.{◌≡◌, ◌↔◌, ℕ, Bool, true, false, not, List, [], ◌∷◌, refl, sym, ap, ◌∙◌, subst, inl, inr}
 use Rattle.std.specs.Prelude.{Option, Some, None, find}
 use Rattle.std.specs.List.{list_all}
 use Rattle.std.proofs.lemmas.Bool.{cond-true, cond-false, and_parts, and_from, cases_Bool}
@@ -9,7 +9,7 @@ use Rattle.tcs_terms.specs.declared.inputs.Note.TheVariants.{Begin, Take, ReadVa
 use Rattle.tcs_laws.specs.Certification.{Tests}
 use Rattle.protocol.specs.Past.{with_past}
 use Rattle.protocol.specs.History.{has_begun, order_of, payload_in, payloads_of}
-use Rattle.protocol.specs.CorrectHistory.{agrees_after, agrees_with, agrees, passes_after, is_legal, clash_after, names_clashes, lost_after, names_losses, IsCorrect}
+use Rattle.protocol.specs.CorrectHistory.{agrees_after, agrees_with, agrees, passes_after, is_legal, clash_after, lost_after, IsCorrect}
 use Rattle.protocol_laws.proofs.BegunFirst.{BegunFirst}
 use Rattle.protocol_laws.proofs.KeepsTime.{keeps_time-of}
 use Rattle.protocol_laws.proofs.WithPast.{with_past-each}

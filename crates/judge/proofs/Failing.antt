@@ -1,5 +1,5 @@
 -- The first place at which a test fails, as a list is gone through.
-use Rattle.std.proofs.Common.{◌≡◌, ℕ, ◌+◌, ◌<◌, ◌≤◌, Bool, true, false, not, List, [], ◌∷◌, ◌++◌, length, get_or, take, drop, refl, sym, ap, ◌∙◌}
+use Rattle.std.proofs.Common.{◌≡◌, ℕ, ◌+◌, ◌<◌, ◌≤◌, Bool, true, false, not, List, [], ◌∷◌, ◌++◌, length, get_or, take, drop, sym, ap, ◌∙◌}
 use Rattle.std.specs.Prelude.{Option, Some, None, find}
 use Rattle.std.proofs.lemmas.List.{drop_more, drop_all, take_more}
 use Rattle.std.proofs.lemmas.Bool.{cond-true, cond-false}

@@ -1,6 +1,6 @@
 -- One of some payloads stands in the way of a newer one exactly where a newest writer of what the newer one saw does.
-use Rattle.std.proofs.Common.{◌≡◌, ℕ, ◌<◌, ◌≤◌, Bool, true, false, not, ◌&&◌, ◌||◌, cond, List, [], ◌∷◌, refl, sym, ap, ◌∙◌, subst, inl, inr, arith}
-use Rattle.std.specs.Prelude.{Option, Some, None, is_some, nat_le, nat_lt, find, filter, All, IsTrue}
+use Rattle.std.proofs.Common.{◌≡◌, ℕ, ◌≤◌, Bool, true, false, not, cond, List, [], ◌∷◌, refl, sym, ap, ◌∙◌, subst, inl, inr, arith}
+use Rattle.std.specs.Prelude.{Option, Some, None, is_some, nat_le, find, All}
 use Rattle.std.specs.List.{list_all, list_any}
 use Rattle.std.specs.Map.{lookup}
 use Rattle.std.specs.BTreeMap.{get, is_at}
@@ -11,7 +11,7 @@ use Rattle.std.specs.declared.cmp.Ordering.{Ordering}
 use Rattle.std.specs.declared.cmp.Ordering.TheVariants.{Less, Equal, Greater}
 use Rattle.std.specs.declared.ops.Bound.{Bound}
 use Rattle.std.specs.declared.ops.Bound.TheVariants.{Included, Excluded}
-use Rattle.std.proofs.lemmas.Bool.{cond-true, cond-false, cases_Bool, and_parts, and_from, or_cases, or_left, or_right, or_from, leb-true, not-true, not_from_false, not_from_true, and_cases, false_from_ne_true, lt-ltb, ltb-true}
+use Rattle.std.proofs.lemmas.Bool.{cond-true, cond-false, cases_Bool, and_parts, and_from, or_cases, or_left, or_right, or_from, leb-true, not_from_true, and_cases, lt-ltb, ltb-true}
 use Rattle.std.proofs.lemmas.Cmp.{nat_list_cmp_total}
 use Rattle.std.proofs.lemmas.List.Elements.{All-head, All-tail}
 use Rattle.std.proofs.lemmas.Map.Lookups.{exact_bytes}
@@ -23,9 +23,9 @@ use Rattle.tcs_terms.specs.declared.payloads.WritePart.{WritePart}
 use Rattle.tcs_terms.specs.Payloads.{Accesses, IsPayload, IsRangePart, IsWritePart, same_name}
 use Rattle.tcs_terms.specs.Shards.{seen, in_range_part, version_seen, range_version}
 use Rattle.tcs_laws.specs.Certification.{Tests, committed_passes}
-use Rattle.tcs_laws.specs.Sight.{counted, by_sight, writes_past_sight, GoesBySight}
+use Rattle.tcs_laws.specs.Sight.{counted, writes_past_sight, GoesBySight}
 use Rattle.tcs_laws.specs.Writing.{writes_name, seen_below}
-use Rattle.tcs_laws.proofs.ListLemmas.{find_some, any_less}
+use Rattle.tcs_laws.proofs.ListLemmas.{find_some}
 use Rattle.conflict_index.specs.Keeping.{padded, object_cmp}
 use Rattle.conflict_index.proofs.Naming.{padded_cmp}
 use Rattle.conflict_index.proofs.Touching.{any_more}

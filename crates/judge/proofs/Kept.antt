@@ -1,14 +1,14 @@
 -- A payload is kept as that of an object that it writes.
-use Rattle.std.proofs.Common.{◌≡◌, ℕ, ◌+◌, ◌<◌, ◌≤◌, Bool, true, false, not, ◌&&◌, cond, List, [], ◌∷◌, ◌++◌, length, take, get_or, refl, sym, ap, ◌∙◌, subst, inl, inr, arith}
-use Rattle.std.specs.Prelude.{Option, Some, None, nat_le, All, IsTrue, Contains}
-use Rattle.std.specs.List.{list_all, list_any}
-use Rattle.std.specs.BTreeMap.{BTreeMap, get, insert_entry, is_at, Updates}
+use Rattle.std.proofs.Common.{◌≡◌, ℕ, ◌+◌, ◌<◌, ◌≤◌, Bool, true, false, ◌&&◌, cond, List, [], ◌∷◌, ◌++◌, length, take, get_or, refl, sym, ap, ◌∙◌, subst, inl, inr, arith}
+use Rattle.std.specs.Prelude.{Option, Some, None, nat_le, All, Contains}
+use Rattle.std.specs.List.{list_all}
+use Rattle.std.specs.BTreeMap.{get, insert_entry, is_at, Updates}
 use Rattle.std.specs.Map.{lookup}
-use Rattle.std.specs.Cmp.Lexicographic.{slice_cmp, same_text, bytes_decides}
-use Rattle.std.specs.Ordering.{nat_cmp, is_eq, match_ordering}
+use Rattle.std.specs.Cmp.Lexicographic.{bytes_decides}
+use Rattle.std.specs.Ordering.{is_eq, match_ordering}
 use Rattle.std.specs.declared.cmp.Ordering.{Ordering}
 use Rattle.std.specs.declared.cmp.Ordering.TheVariants.{Less, Equal, Greater}
-use Rattle.std.proofs.lemmas.Bool.{cond-true, cond-false, cases_Bool, and_parts, and_from, leb-true, leb-false, le-leb, false_from_ne_true}
+use Rattle.std.proofs.lemmas.Bool.{cond-true, cond-false, cases_Bool, and_parts, and_from, leb-true, leb-false, le-leb}
 use Rattle.std.proofs.lemmas.List.Elements.{All-head, All-tail, All-push}
 use Rattle.std.proofs.lemmas.List.Folds.{list_all-append, list_all_more, list_any_at}
 use Rattle.std.proofs.lemmas.Map.Lookups.{exact_bytes}
@@ -18,7 +18,7 @@ use Rattle.tcs_terms.specs.Payloads.{Accesses, IsPayload, IsWritePart, same_name
 use Rattle.tcs_laws.specs.Writing.{writes_name}
 use Rattle.conflict_index.specs.Keeping.{padded, object_cmp}
 use Rattle.conflict_index.proofs.Naming.{same_cmp, padded_cmp}
-use Rattle.judge.specs.Newest.{Newest, reaches, is_written, is_covered, covers, covers_writes, KeepsWriters, KeepsAmong, KeepsCovered, KeepsWrites, AreNewest}
+use Rattle.judge.specs.Newest.{Newest, reaches, is_written, is_covered, covers, covers_writes, KeepsCovered, KeepsWrites, AreNewest}
 
 is_equal : (o : Ordering) → is_eq o ≡ true → o ≡ Equal
 is_equal Equal e = refl

@@ -11,7 +11,7 @@ use Rattle.tcs_laws.specs.Certification.{Tests}
 use Rattle.cert_serial.specs.Serial.{serial}
 use Rattle.cert_snapshot.specs.Snapshot.{snapshot}
 use Rattle.cert_commute.specs.Commute.{commute}
-use Rattle.protocol.specs.History.{commit_in, first_of_each, order_of, payload_in, payloads_of}
+use Rattle.protocol.specs.History.{first_of_each, order_of, payload_in, payloads_of}
 use Rattle.protocol.specs.Past.{with_past}
 use Rattle.protocol.specs.CorrectHistory.{agrees_after, passes_after, clash_after, lost_after}
 use Rattle.judge.specs.declared.verdicts.Clause.{Clause}

@@ -1,5 +1,5 @@
 -- Each note puts its transaction last, if it has one that is new.
-use Rattle.std.proofs.Common.{◌≡◌, ℕ, ◌<◌, ◌≤◌, List, length, take, arith, sym, ap, ◌∙◌, subst}
+use Rattle.std.proofs.Common.{◌<◌, ◌≤◌, List, length, take, arith, sym, ap, ◌∙◌, subst}
 use Rattle.std.proofs.lemmas.List.{take_all}
 use Rattle.tcs_terms.specs.declared.ids.TxId.{TxId}
 use Rattle.protocol.specs.History.{commit_in}

@@ -1,5 +1,5 @@
 -- A payload is put where what is kept does not reach its version.
-use Rattle.std.proofs.Common.{◌≡◌, false, true, sym, ◌∙◌}
+use Rattle.std.proofs.Common.{sym, ◌∙◌}
 use Rattle.judge.proofs.Kept.{among_writes, keeps_put, keeps_still}
 use Rattle.judge.proofs.newest.keep_write.Goals as goal
 

@@ -1,5 +1,5 @@
 -- One write more is kept, and what was covered stays so.
-use Rattle.std.proofs.Common.{◌≡◌, ℕ, ◌<◌, List, length, take, arith, sym, subst}
+use Rattle.std.proofs.Common.{◌<◌, List, length, arith, sym, subst}
 use Rattle.std.specs.Prelude.{All, Contains}
 use Rattle.std.proofs.lemmas.List.Elements.{All-take, Contains-get_or}
 use Rattle.tcs_terms.specs.declared.payloads.WritePart.{WritePart}

@@ -1,5 +1,5 @@
 -- No range so far refuses.
-use Rattle.std.proofs.Common.{◌≡◌, ℕ, ◌<◌, length, arith, true, false, sym, ap, ◌∙◌}
+use Rattle.std.proofs.Common.{◌≡◌, ◌<◌, length, arith, true, false, sym, ap, ◌∙◌}
 use Rattle.std.specs.List.{list_any}
 use Rattle.std.proofs.lemmas.Bool.{or_from}
 use Rattle.std.proofs.lemmas.List.{take_all}

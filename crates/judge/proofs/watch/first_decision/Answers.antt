@@ -1,5 +1,5 @@
 -- The history is gone through up to the first note that does not pass.
-use Rattle.std.proofs.Common.{◌≡◌, ℕ, ◌+◌, ◌<◌, List, length, take, true, arith, sym, ◌∙◌, subst, refl}
+use Rattle.std.proofs.Common.{◌≡◌, ◌<◌, List, length, take, true, arith, sym, ◌∙◌, subst, refl}
 use Rattle.tcs_terms.specs.declared.inputs.Note.{Note}
 use Rattle.judge.proofs.Failing.{front_at, failing_next, decision_here, decision_none}
 use Rattle.judge.proofs.watch.first_decision.Goals as goal

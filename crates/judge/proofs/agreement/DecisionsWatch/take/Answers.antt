@@ -1,5 +1,5 @@
 -- A note agrees with those before it, as what is kept of them tells.
-use Rattle.std.proofs.Common.{◌≡◌, List, [], ◌∷◌, ◌++◌, sym, ◌∙◌, subst}
+use Rattle.std.proofs.Common.{sym, ◌∙◌}
 use Rattle.judge.proofs.Keeping.{agrees_same, decisions_step}
 use Rattle.judge.proofs.agreement.DecisionsWatch.take.Goals as goal
 
