@@ -1,2 +1,4 @@
 pub mod Lines
 pub mod Answering
+pub mod Pieces
+pub mod Stepping

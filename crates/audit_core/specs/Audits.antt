@@ -37,7 +37,7 @@ answer_from s told lines used [] rest = at_end told.ended told lines rest
 answer_from s told lines used (text ∷ texts) rest =
     if is_too_long used text then BadLine (lines + 1)
     else with_line (line_in s text) (lines + 1)
-        (λ line. answer_from (after s line) (with_item told (item_of line)) (lines + 1) (used + length text + 1) texts rest)
+    (λ line. answer_from (after s line) (with_item told (item_of line)) (lines + 1) (used + length text + 1) texts rest)
 
 -- the answer to all bytes
 abbrev pub answer_of : List ℕ → Answer
