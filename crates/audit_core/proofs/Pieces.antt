@@ -53,8 +53,12 @@ yields_long used all before after held held' left left' a g none long =
       rest = more.rest;
       told = more.told;
       one_line = lacks_on gots.Long before after held held' left left' a none;
-      divided = (held' ++ more.rest, more.whole,
-          omega (arith, longer_by before after held held' left left' a, ap length more.whole, length-append after (held' ++ more.rest)), long);
+      divided = (
+        held' ++ more.rest,
+        more.whole,
+        omega (arith, longer_by before after held held' left left' a, ap length more.whole, length-append after (held' ++ more.rest)),
+        long,
+      );
     }
 
 -- a line feed ends the text
