@@ -1,5 +1,5 @@
 -- The answer to a trace, line by line.
-use Rattle.std.proofs.Common.{◌≡◌, ◌×◌, ℕ, ◌+◌, ◌*◌, ◌<◌, ◌≤◌, Bool, true, false, ◌==◌, List, [], ◌∷◌, ◌++◌, length, refl, sym, ap, ◌∙◌, subst, length-append, arith}
+use Rattle.std.proofs.Common.{◌≡◌, ℕ, ◌+◌, ◌*◌, ◌<◌, ◌≤◌, Bool, true, false, ◌==◌, List, [], ◌∷◌, ◌++◌, length, refl, sym, ap, ◌∙◌, subst, length-append, arith}
 use Rattle.std.specs.Prelude.{Option, Some, None, nat_le}
 use Rattle.std.specs.Option.{option_map}
 use Rattle.std.proofs.lemmas.Bool.{cond_both, cond-true, cond-false, and_parts, leb-true}
@@ -14,7 +14,7 @@ use Rattle.trace_text.specs.Words.{cut}
 use Rattle.audit_core.specs.Audits.{Answer, Judged, BadLine, at_end, with_line, answer_from}
 use Rattle.audit_core.specs.Texts.{Lines, with_byte, lines_of, is_too_long}
 use Rattle.audit_core.specs.Told.{Told, HasShards, with_item, verdict_told}
-use Rattle.audit_core.proofs.Lines.{put_before, lines_behind, line_then, no_line, still_long}
+use Rattle.audit_core.proofs.Lines.{both, put_before, lines_behind, line_then, no_line, still_long}
 
 -- the answer to bytes, from here on
 abbrev pub answer_bytes : Standing → Told → ℕ → ℕ → List ℕ → Answer
@@ -49,7 +49,7 @@ answer_behind_text s told lines used all text more none is =
 unbroken : (bytes : List ℕ) → (lines_of bytes).whole ≡ [] → (lines_of bytes).rest ≡ bytes
 unbroken [] e = refl
 unbroken (b ∷ bs) e =
-    cond_both (b == line_feed) (record { whole = [] ∷ (lines_of bs).whole; rest = (lines_of bs).rest }) (with_byte b (lines_of bs).whole (lines_of bs).rest)
+    cond_both (b == line_feed) (both ([] ∷ (lines_of bs).whole) (lines_of bs).rest) (with_byte b (lines_of bs).whole (lines_of bs).rest)
     (λ (l : Lines). l.whole ≡ [] → l.rest ≡ b ∷ bs) (λ _ k. absurd cc) (λ _ k. go (lines_of bs).whole (lines_of bs).rest (unbroken bs) k) e
   where
     go : (whole : List (List ℕ)) (rest : List ℕ) → (whole ≡ [] → rest ≡ bs) → (with_byte b whole rest).whole ≡ [] → (with_byte b whole rest).rest ≡ b ∷ bs

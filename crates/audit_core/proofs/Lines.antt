@@ -1,10 +1,13 @@
 -- The lines of bytes that begin with a text in which no line feed stands.
-use Rattle.std.proofs.Common.{◌≡◌, ℕ, ◌+◌, ◌<◌, ◌≤◌, ◌×◌, Bool, true, false, ◌||◌, ◌==◌, List, [], ◌∷◌, ◌++◌, length, refl, sym, ap, ◌∙◌, inl, inr, append-nil, length-append, arith}
+use Rattle.std.proofs.Common.{◌≡◌, ℕ, ◌+◌, ◌<◌, ◌≤◌, Bool, true, false, ◌||◌, ◌==◌, List, [], ◌∷◌, ◌++◌, length, refl, sym, ap, ◌∙◌, inl, inr, append-nil, length-append, arith}
 use Rattle.std.specs.Prelude.{nat_lt}
 use Rattle.std.proofs.lemmas.Bool.{cond-false, or_parts, or_cases, or_left, or_right, ltb-true, ltb-false, lt-ltb}
 use Rattle.schedule_text.specs.Lines.{line_feed, has_feed}
 use Rattle.audit_core.specs.declared.limits.TheConstants.{MAX_LINE, MAX_TRACE}
 use Rattle.audit_core.specs.Texts.{Lines, with_byte, lines_of, is_too_long}
+
+abbrev pub both : List (List ℕ) → List ℕ → Lines
+both whole rest = record { whole = whole; rest = rest }
 
 -- lines with a text before them
 abbrev pub put_before : List ℕ → List (List ℕ) → List ℕ → Lines
@@ -15,12 +18,12 @@ pub lines_behind : (text more : List ℕ) → has_feed text ≡ false
     → lines_of (text ++ more) ≡ put_before text (lines_of more).whole (lines_of more).rest
 lines_behind [] more none = go (lines_of more).whole (lines_of more).rest
   where
-    go : (whole : List (List ℕ)) (rest : List ℕ) → (record { whole = whole; rest = rest } : Lines) ≡ put_before [] whole rest
+    go : (whole : List (List ℕ)) (rest : List ℕ) → both whole rest ≡ put_before [] whole rest
     go [] rest = refl
     go (line ∷ lines) rest = refl
 lines_behind (b ∷ bs) more none =
     let parts = or_parts (b == line_feed) (has_feed bs) none in
-    cond-false (b == line_feed) (record { whole = [] ∷ (lines_of (bs ++ more)).whole; rest = (lines_of (bs ++ more)).rest })
+    cond-false (b == line_feed) (both ([] ∷ (lines_of (bs ++ more)).whole) (lines_of (bs ++ more)).rest)
     (with_byte b (lines_of (bs ++ more)).whole (lines_of (bs ++ more)).rest) parts.0
     ∙ ap (λ (l : Lines). with_byte b l.whole l.rest) (lines_behind bs more parts.1)
     ∙ go (lines_of more).whole (lines_of more).rest
@@ -31,16 +34,16 @@ lines_behind (b ∷ bs) more none =
 
 -- a line feed ends the text: it is the first line
 pub line_then : (text more : List ℕ) → has_feed text ≡ false
-    → lines_of (text ++ line_feed ∷ more) ≡ record { whole = text ∷ (lines_of more).whole; rest = (lines_of more).rest }
+    → lines_of (text ++ line_feed ∷ more) ≡ both (text ∷ (lines_of more).whole) (lines_of more).rest
 line_then text more none =
     lines_behind text (line_feed ∷ more) none
-    ∙ ap (λ (t : List ℕ). (record { whole = t ∷ (lines_of more).whole; rest = (lines_of more).rest } : Lines)) (append-nil text)
+    ∙ ap (λ (t : List ℕ). both (t ∷ (lines_of more).whole) (lines_of more).rest) (append-nil text)
 
 -- nothing stands behind the text: it is no whole line
-pub no_line : (text : List ℕ) → has_feed text ≡ false → lines_of text ≡ record { whole = []; rest = text }
+pub no_line : (text : List ℕ) → has_feed text ≡ false → lines_of text ≡ both [] text
 no_line text none =
     ap lines_of (sym (append-nil text)) ∙ lines_behind text [] none
-    ∙ ap (λ (t : List ℕ). (record { whole = []; rest = t } : Lines)) (append-nil text)
+    ∙ ap (λ (t : List ℕ). both [] t) (append-nil text)
 
 -- what is too long stays so with more bytes
 longer : (most last used : ℕ) (text more : List ℕ) → (nat_lt most (length text) || nat_lt last (used + length text + 1)) ≡ true
