@@ -29,7 +29,7 @@ names-writes [] = refl
 names-writes (p ∷ ps) = go p.put (names-writes ps)
   where
     go : (put : Option (List ℕ)) → map (λ (w : WritePart). w.name) (writes ps) ≡ map (λ (p : Part). p.name) (filter has_put ps)
-        → map (λ (w : WritePart). w.name) (write_of p.name put (writes ps)) ≡ map (λ (p : Part). p.name) (cond (is_some put) (p ∷ filter has_put ps) (filter has_put ps))
+        → map (λ (w : WritePart). w.name) (write_of p.name put ++ writes ps) ≡ map (λ (p : Part). p.name) (cond (is_some put) (p ∷ filter has_put ps) (filter has_put ps))
     go None rest = rest
     go (Some value) rest = ap (λ (ns : List (List ℕ)). p.name ∷ ns) rest
 
@@ -40,7 +40,7 @@ few_writes : (parts : List Part) → length (writes parts) ≤ length parts
 few_writes [] = omega arith
 few_writes (p ∷ ps) = go p.put (few_writes ps)
   where
-    go : (put : Option (List ℕ)) → length (writes ps) ≤ length ps → length (write_of p.name put (writes ps)) ≤ length (p ∷ ps)
+    go : (put : Option (List ℕ)) → length (writes ps) ≤ length ps → length (write_of p.name put ++ writes ps) ≤ length (p ∷ ps)
     go None rest = omega arith
     go (Some value) rest = omega arith
 
@@ -70,7 +70,7 @@ writes_read front (p ∷ ps) = go p.put later
     later = rw append_assoc at (writes_read (front ++ p ∷ []) ps)
 
     go : (put : Option (List ℕ)) → list_all (λ (w : WritePart). reads_name (reads (front ++ p ∷ ps)) w.name) (writes ps) ≡ true
-        → list_all (λ (w : WritePart). reads_name (reads (front ++ p ∷ ps)) w.name) (write_of p.name put (writes ps)) ≡ true
+        → list_all (λ (w : WritePart). reads_name (reads (front ++ p ∷ ps)) w.name) (write_of p.name put ++ writes ps) ≡ true
     go None rest = rest
     go (Some value) rest = both (reads_name (reads (front ++ p ∷ ps)) p.name) (list_all (λ (w : WritePart). reads_name (reads (front ++ p ∷ ps)) w.name) (writes ps)) (part_read front p ps) rest
 

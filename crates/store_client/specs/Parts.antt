@@ -1,6 +1,6 @@
 -- What a session was given, by object.
 use Rattle.std.specs.Prelude.{◌≡◌, ℕ, ◌+◌, ◌≤◌, max, Bool, if◌then◌else◌, List, [], ◌∷◌, length, map, fold, Option, Some, None, is_some, IsTrue}
-use Rattle.std.specs.List.{position}
+use Rattle.std.specs.List.{flat_map, position}
 use Rattle.tcs_terms.specs.declared.limits.TheConstants.{MAX_READS}
 use Rattle.tcs_terms.specs.declared.payloads.ReadPart.{ReadPart}
 use Rattle.tcs_terms.specs.declared.payloads.WritePart.{WritePart}
@@ -26,15 +26,14 @@ with_put name value (p ∷ ps) = if same_name p.name name then record p { put = 
 abbrev pub reads : List Part → List ReadPart
 reads parts = map (λ (p : Part). record { name = p.name; version = p.version }) parts
 
--- what an object is to get, behind the writes of earlier ones
-abbrev pub write_of : List ℕ → Option (List ℕ) → List WritePart → List WritePart
-write_of name None rest = rest
-write_of name (Some value) rest = record { name = name; value = value } ∷ rest
+-- what an object is to get
+abbrev pub write_of : List ℕ → Option (List ℕ) → List WritePart
+write_of name None = []
+write_of name (Some value) = record { name = name; value = value } ∷ []
 
 -- what is to be written: the last value put of each object
 abbrev pub writes : List Part → List WritePart
-writes [] = []
-writes (p ∷ ps) = write_of p.name p.put (writes ps)
+writes parts = flat_map (λ (p : Part). write_of p.name p.put) parts
 
 -- the greatest version that was read, 0 where nothing was
 abbrev pub greatest : List Part → ℕ
