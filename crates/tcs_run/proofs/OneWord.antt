@@ -1,9 +1,8 @@
 -- What one word names, and what several do.
-use Rattle.std.proofs.Common.{◌≡◌, ℕ, ◌<◌, ◌≤◌, List, [], ◌∷◌, length, get_or, map, String, Global, Option, Some, None, MatchOption, sym, ap, ◌∙◌, arith, codes}
+use Rattle.std.proofs.Common.{◌≡◌, ℕ, ◌<◌, ◌≤◌, List, [], ◌∷◌, length, get_or, map, String, Global, Option, Some, None, MatchOption, sym, ap, ◌∙◌, arith}
 use Rattle.std.specs.Prelude.{string_bytes}
 use Rattle.tcs_run.specs.declared.command.Command.{Command}
-use Rattle.tcs_run.specs.declared.command.Command.TheVariants.{Replay}
-use Rattle.tcs_run.specs.Commands.{Names, NamesInOne}
+use Rattle.tcs_run.specs.Commands.{word_of, Names, NamesInOne}
 
 one_word : (words : List (String Global)) (w : String Global) → 1 ≤ length words → length words < 2 → w ≡ get_or words 0 w → words ≡ w ∷ []
 one_word [] w least below is = absurd (omega arith)
@@ -17,10 +16,10 @@ alone : (words : List (String Global)) (w : String Global) (word : List ℕ) →
 alone words w word one value = ap (map string_bytes) one ∙ ap (λ (x : List ℕ). x ∷ []) (sym value)
 
 names : (command : Command) (words : List (String Global)) (word : List ℕ) → map string_bytes words ≡ word ∷ [] → NamesInOne command word → Names command words
-names Replay words word one named = one ∙ ap (λ (x : List ℕ). x ∷ []) named
+names command words word one named = one ∙ ap (λ (x : List ℕ). x ∷ []) named
 
 named_by : (command : Command) (words : List (String Global)) (word : List ℕ) → map string_bytes words ≡ word ∷ [] → Names command words → NamesInOne command word
-named_by Replay words word one named = head_of word (codes "replay") (sym one ∙ named)
+named_by command words word one named = head_of word (word_of command) (sym one ∙ named)
 
 -- one word names what it names by itself
 pub named_alone : (words : List (String Global)) (w : String Global) (word : List ℕ) (found : Option Command) → 1 ≤ length words → length words < 2 → w ≡ get_or words 0 w
@@ -30,3 +29,7 @@ named_alone words w word (Some command) least below is value told =
     names command words word (alone words w word (one_word words w least below is) value) told
 named_alone words w word None least below is value told =
     λ command named. told command (named_by command words word (alone words w word (one_word words w least below is) value) named)
+
+-- words that name two commands name one
+pub same_word : (a b : Command) (words : List (String Global)) → Names a words → Names b words → word_of a ≡ word_of b
+same_word a b words first second = head_of (word_of a) (word_of b) (sym first ∙ second)

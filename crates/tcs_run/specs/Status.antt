@@ -3,6 +3,8 @@ use Rattle.std.specs.Prelude.{ℕ, List, ◌++◌, codes, decimal}
 use Rattle.text_words.specs.Words.{reason_text}
 use Rattle.replay_core.specs.declared.stops.ReplayStop.{ReplayStop}
 use Rattle.replay_core.specs.declared.stops.ReplayStop.TheVariants as stops
+use Rattle.quorum_config.specs.declared.stops.QuorumStop.{QuorumStop}
+use Rattle.quorum_config.specs.declared.stops.QuorumStop.TheVariants as quorums
 use Rattle.tcs_run.specs.declared.status.Status.{Status}
 use Rattle.tcs_run.specs.declared.status.Status.TheVariants as statuses
 
@@ -11,6 +13,7 @@ abbrev pub exit_number : Status → ℕ
 exit_number statuses.Ok = 0
 exit_number statuses.BadWords = 2
 exit_number (statuses.Bad line reason) = 3
+exit_number (statuses.BadQuorum line) = 3
 exit_number statuses.ReadFault = 4
 exit_number statuses.WriteFault = 5
 exit_number statuses.OutOfMemory = 6
@@ -21,6 +24,7 @@ abbrev pub status_text : Status → List ℕ
 status_text statuses.Ok = codes "ok"
 status_text statuses.BadWords = codes "bad words"
 status_text (statuses.Bad line reason) = codes "bad line " ++ (decimal line ++ (codes ": " ++ reason_text reason))
+status_text (statuses.BadQuorum line) = codes "bad quorum line " ++ decimal line
 status_text statuses.ReadFault = codes "read fault"
 status_text statuses.WriteFault = codes "write fault"
 status_text statuses.OutOfMemory = codes "out of memory"
@@ -33,3 +37,10 @@ status_of stops.ReadFault = statuses.ReadFault
 status_of stops.WriteFault = statuses.WriteFault
 status_of (stops.Full bytes) = statuses.Full bytes
 status_of stops.OutOfMemory = statuses.OutOfMemory
+
+-- the status of a run of the quorum store that stopped
+abbrev pub status_of_quorum : QuorumStop → Status
+status_of_quorum (quorums.Bad line) = statuses.BadQuorum line
+status_of_quorum quorums.ReadFault = statuses.ReadFault
+status_of_quorum quorums.WriteFault = statuses.WriteFault
+status_of_quorum quorums.OutOfMemory = statuses.OutOfMemory

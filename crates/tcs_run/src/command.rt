@@ -8,6 +8,8 @@ ghost use Rattle.tcs_run.specs.Commands.{Names, NamesInOne};
 pub enum Command {
     /// `replay`: reads a schedule, and writes the trace of its run.
     Replay,
+    /// `quorum`: reads events of a quorum store, and writes the text of their run.
+    Quorum,
 }
 
 impl Command {
@@ -30,6 +32,8 @@ fn named_in_one(word: &str) -> Option<Command>
 {
     if word == "replay" {
         Some(Command::Replay)
+    } else if word == "quorum" {
+        Some(Command::Quorum)
     } else {
         None
     }

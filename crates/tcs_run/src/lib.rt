@@ -4,6 +4,8 @@
 
 mod command;
 mod flush;
+mod quorums;
+mod replays;
 mod running;
 mod status;
 #[cfg(test)]

@@ -9,20 +9,25 @@ ghost use Rattle.schedule_text.specs.Bytes.{IsText, FirstBad};
 ghost use Rattle.replay_core.specs.declared.stops.ReplayStop.{ReplayStop};
 ghost use Rattle.replay_core.specs.Replays.{Finishes, Ends, FirstFull, WithinOn, Stayed};
 ghost use Rattle.replay_core.specs.Trace.{run_of, is_live};
+ghost use Rattle.quorum_protocol.specs.declared.terms.Event as quorum_terms;
+ghost use Rattle.quorum_config.specs.declared.stops.QuorumStop.{QuorumStop};
+ghost use Rattle.quorum_config.specs.Runs as quorums;
 ghost use Rattle.tcs_run.specs.declared.command.Command.{Command};
 ghost use Rattle.tcs_run.specs.Commands.{Names};
-ghost use Rattle.tcs_run.specs.Status.{status_of};
+ghost use Rattle.tcs_run.specs.Status.{status_of, status_of_quorum};
 
 use crate::command::Command;
+use crate::quorums::stored;
+use crate::replays::replayed;
 use crate::status::Status;
-use replay_core::replay;
 use std::alloc::Global;
 use tcs_io::{Sink, Source};
 
 /// Does what the words say, which are those behind the program's own name, and answers how that ended.
 ///
 /// `replay` reads a schedule from the input, and writes the trace of its run to the output. One line after the other is
-/// read, checked, stepped and written, and what is refused first in this order of work ends the run.
+/// read, checked, stepped and written, and what is refused first in this order of work ends the run. `quorum` reads events
+/// of a quorum store, and writes the text of their run, line by line as `replay` does.
 pub fn run<S: Source, K: Sink>(
     alloc: Global,
     words: &[String],
@@ -76,6 +81,33 @@ pub fn run<S: Source, K: Sink>(
         → (sum : ℕ) (is : List LineItem) → FirstFull bytes sum is
         → (result ≡ Status.Full sum) ⊎ (result ≡ Status.OutOfMemory) }
 
+    // ---- `quorum`
+
+    // With `Ok` the bytes are an input of the quorum store, they were read to their end, and the output took the text of its
+    // run. In that run any two stored notes of one shard and epoch have equal configurations, each of them was proposed
+    // before, and a proposer stores an epoch above 2 of a shard only after the one below.
+    ensures agreed { Names Command.Quorum words.now
+        → (bytes before : List ℕ) → S.left input.old ≡ Some bytes → K.held output.old ≡ Some before
+        → result ≡ Status.Ok → quorums.Finishes bytes before (S.left input.new) (K.held output.new) }
+
+    // With each other status: what was read and written by then; the run so far keeps these promises.
+    ensures cut_short { Names Command.Quorum words.now
+        → (bytes before : List ℕ) → S.left input.old ≡ Some bytes → K.held output.old ≡ Some before
+        → (stop : QuorumStop) → result ≡ status_of_quorum stop
+        → quorums.Ends bytes before (S.left input.new) (K.held output.new) stop }
+
+    // Which status comes, where no fault is counted and memory does not run out: `Ok` for an input, or the first bad line.
+    ensures carried_out { Names Command.Quorum words.now
+        → (bytes before : List ℕ) → S.left input.old ≡ Some bytes → K.held output.old ≡ Some before
+        → Stayed (S.faults input.old) (S.faults input.new) → Stayed (K.faults output.old) (K.faults output.new)
+        → (acceptors : ℕ) (es : List quorum_terms.Event) → quorums.IsInput bytes acceptors es
+        → (result ≡ Status.Ok) ⊎ (result ≡ Status.OutOfMemory) }
+    ensures refused { Names Command.Quorum words.now
+        → (bytes before : List ℕ) → S.left input.old ≡ Some bytes → K.held output.old ≡ Some before
+        → Stayed (S.faults input.old) (S.faults input.new) → Stayed (K.faults output.old) (K.faults output.new)
+        → (line : ℕ) (es : List quorum_terms.Event) → quorums.FirstBad bytes line es
+        → (result ≡ Status.BadQuorum line) ⊎ (result ≡ Status.OutOfMemory) }
+
     // ---- A fault is told only where it was counted.
     ensures read { S.faults input.old ≤ S.faults input.new }
     ensures wrote { K.faults output.old ≤ K.faults output.new }
@@ -84,9 +116,7 @@ pub fn run<S: Source, K: Sink>(
 {
     match Command::named(words) {
         None => Status::BadWords,
-        Some(Command::Replay) => match replay(alloc, input, output) {
-            Ok(()) => Status::Ok,
-            Err(stop) => Status::from(stop),
-        },
+        Some(Command::Replay) => replayed(alloc, input, output),
+        Some(Command::Quorum) => stored(alloc, input, output),
     }
 }

@@ -2,6 +2,7 @@
 ghost use Rattle.std.specs.Prelude.{◌≡◌};
 ghost use Rattle.tcs_run.specs.Status.{exit_number};
 
+use quorum_config::QuorumStop;
 use replay_core::ReplayStop;
 use std::fmt::{self, Display, Formatter};
 use text_words::Reason;
@@ -16,6 +17,8 @@ pub enum Status {
     BadWords,
     /// This line of the schedule, from 1, is the first outside the grammar, for this reason.
     Bad { line: u32, reason: Reason },
+    /// This line of the input of the quorum store, from 1, is the first outside the grammar.
+    BadQuorum(u32),
     /// Reading failed.
     ReadFault,
     /// Writing failed.
@@ -33,7 +36,7 @@ impl Status {
         match self {
             Status::Ok => 0,
             Status::BadWords => 2,
-            Status::Bad { .. } => 3,
+            Status::Bad { .. } | Status::BadQuorum(_) => 3,
             Status::ReadFault => 4,
             Status::WriteFault => 5,
             Status::OutOfMemory => 6,
@@ -59,6 +62,22 @@ impl From<ReplayStop> for Status {
     }
 }
 
+impl From<QuorumStop> for Status {
+    ghost use Rattle.std.specs.Prelude.{◌≡◌};
+    ghost use Rattle.tcs_run.specs.Status.{status_of_quorum};
+
+    ghost from_gives = { λ stop status. status ≡ status_of_quorum stop };
+
+    fn from(stop: QuorumStop) -> Status {
+        match stop {
+            QuorumStop::Bad(line) => Status::BadQuorum(line),
+            QuorumStop::ReadFault => Status::ReadFault,
+            QuorumStop::WriteFault => Status::WriteFault,
+            QuorumStop::OutOfMemory => Status::OutOfMemory,
+        }
+    }
+}
+
 impl Display for Status {
     ghost use Rattle.std.specs.Prelude.{Some};
     ghost use Rattle.tcs_run.specs.Status.{status_text};
@@ -70,6 +89,7 @@ impl Display for Status {
             Status::Ok => f.write_str("ok"),
             Status::BadWords => f.write_str("bad words"),
             Status::Bad { line, reason } => write!(f, "bad line {line}: {reason}"),
+            Status::BadQuorum(line) => write!(f, "bad quorum line {line}"),
             Status::ReadFault => f.write_str("read fault"),
             Status::WriteFault => f.write_str("write fault"),
             Status::OutOfMemory => f.write_str("out of memory"),
