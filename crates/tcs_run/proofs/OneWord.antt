@@ -2,6 +2,7 @@
 use Rattle.std.proofs.Common.{◌≡◌, ℕ, ◌<◌, ◌≤◌, List, [], ◌∷◌, length, get_or, map, String, Global, Option, Some, None, MatchOption, sym, ap, ◌∙◌, arith}
 use Rattle.std.specs.Prelude.{string_bytes}
 use Rattle.tcs_run.specs.declared.command.Command.{Command}
+use Rattle.tcs_run.specs.declared.command.Command.TheVariants.{Replay, Quorum}
 use Rattle.tcs_run.specs.Commands.{word_of, Names, NamesInOne}
 
 one_word : (words : List (String Global)) (w : String Global) → 1 ≤ length words → length words < 2 → w ≡ get_or words 0 w → words ≡ w ∷ []
@@ -30,6 +31,6 @@ named_alone words w word (Some command) least below is value told =
 named_alone words w word None least below is value told =
     λ command named. told command (named_by command words word (alone words w word (one_word words w least below is) value) named)
 
--- words that name two commands name one
-pub same_word : (a b : Command) (words : List (String Global)) → Names a words → Names b words → word_of a ≡ word_of b
-same_word a b words first second = head_of (word_of a) (word_of b) (sym first ∙ second)
+-- no words name two commands
+pub not_both : (words : List (String Global)) → Names Replay words → Names Quorum words → ⊥
+not_both words replay quorum = let same = head_of (word_of Replay) (word_of Quorum) (sym replay ∙ quorum) in absurd cc

@@ -52,6 +52,7 @@ fn other_words_are_bad(rt: HostRuntime) -> Result<(), Fail> {
         &["replay "],
         &["replay", "replay"],
         &["audit"],
+        &["quorum", "replay"],
         &[""],
     ] {
         let mut words = Vec::new(rt.alloc());

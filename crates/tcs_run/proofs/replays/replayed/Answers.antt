@@ -21,10 +21,10 @@ returns-in-Err-clause-complete g c = λ bytes before told holds quiet_input quie
 
 pub returns-in-Err-clause-bad : goal.returns-in-Err-clause-bad
 returns-in-Err-clause-bad g c = λ bytes before told holds quiet_input quiet_output line reason is bad within.
-    one_of_two c.from.result c.in-Err.stop (Bad line reason) OutOfMemory c.from.ensures
+    one_of_two status_of c.from.result c.in-Err.stop (Bad line reason) OutOfMemory c.from.ensures
     (c.in-Err.ensures.bad bytes before told holds quiet_input quiet_output line reason is bad within)
 
 pub returns-in-Err-clause-full : goal.returns-in-Err-clause-full
 returns-in-Err-clause-full g c = λ bytes before told holds quiet_input quiet_output sum is full.
-    one_of_two c.from.result c.in-Err.stop (Full sum) OutOfMemory c.from.ensures
+    one_of_two status_of c.from.result c.in-Err.stop (Full sum) OutOfMemory c.from.ensures
     (c.in-Err.ensures.full bytes before told holds quiet_input quiet_output sum is full)
