@@ -15,7 +15,7 @@ use Rattle.schedule_text.specs.Bytes.{Taken, IsNext, FirstBad, events_on, setups
 use Rattle.schedule_text.specs.Lines.{IsLine, Fits, Divides, HandsOut, Keeps, has_feed, used}
 use Rattle.schedule_text.specs.Schedules.{Progress, at_start, line_reading}
 use Rattle.schedule_text.proofs.BytesRead.{one_taken, none_taken, reads_more, few_lines}
-use Rattle.schedule_text.proofs.Steps.{not_both}
+use Rattle.text_words.proofs.Steps.{not_both}
 use Rattle.replay_core.specs.declared.reading.Reading.{Reading}
 use Rattle.replay_core.specs.declared.stops.ReplayStop.{ReplayStop}
 use Rattle.replay_core.specs.declared.stops.ReplayStop.TheVariants as stops
