@@ -33,4 +33,7 @@ named_alone words w word None least below is value told =
 
 -- no words name two commands
 pub not_both : (words : List (String Global)) → Names Replay words → Names Quorum words → ⊥
-not_both words replay quorum = let same = head_of (word_of Replay) (word_of Quorum) (sym replay ∙ quorum) in absurd cc
+not_both words replay quorum =
+    let same = head_of (word_of Replay) (word_of Quorum) (sym replay ∙ quorum) in
+    let first : 114 ≡ 113 = ap (λ (word : List ℕ). get_or word 0 0) same in
+    absurd (omega arith)
