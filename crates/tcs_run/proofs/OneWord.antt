@@ -36,4 +36,4 @@ pub not_both : (words : List (String Global)) → Names Replay words → Names Q
 not_both words replay quorum =
     let same = head_of (word_of Replay) (word_of Quorum) (sym replay ∙ quorum) in
     let first : 114 ≡ 113 = ap (λ (word : List ℕ). get_or word 0 0) same in
-    absurd (omega arith)
+    absurd (omega (arith, first))
