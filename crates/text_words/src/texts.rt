@@ -35,10 +35,11 @@ pub fn read_number(word: &[u8]) -> Option<u64>
     text.parse().ok()
 }
 
-/// Appends these bytes. After want of memory the buffer begins with what it held.
+/// Appends these bytes. Where memory runs out nothing is appended.
 #[tactic(auto, using(tcs_terms::proofs::Appending::begins_same))]
 pub fn put(out: &mut Vec<u8>, text: &[u8]) -> Result<(), OutOfMemory>
     ensures ok { OnOk result (out.new.items ≡ out.old.items ++ text.now) }
+    ensures same { OnErr result (out.new.items ≡ out.old.items) }
     ensures err { OnErr result (Begins out.old.items out.new.items) }
 {
     Ok(out.extend_from_slice(text)?)
@@ -53,9 +54,10 @@ pub fn put_byte(out: &mut Vec<u8>, byte: u8) -> Result<(), OutOfMemory>
     Ok(out.push(byte)?)
 }
 
-/// Appends a number in decimal. After want of memory the buffer begins with what it held.
+/// Appends a number in decimal. Where memory runs out nothing is appended.
 pub fn put_number(out: &mut Vec<u8>, number: u64) -> Result<(), OutOfMemory>
     ensures ok { OnOk result (out.new.items ≡ out.old.items ++ decimal number) }
+    ensures same { OnErr result (out.new.items ≡ out.old.items) }
     ensures err { OnErr result (Begins out.old.items out.new.items) }
 {
     let mut digits = Buffer::new();
