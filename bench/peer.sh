@@ -1,7 +1,7 @@
 #!/bin/sh
-# Time and memory of `tcs replay` beside those of another program that knows the same command, on the same schedules, which
-# that program makes: `load 1 N`. Of 200,000 events five runs of each by turns, and of them the medians and the greatest
-# peaks; of 100,000 and of 1,000,000 events the time that `tcs` takes for one event.
+# Time and memory of `tcs replay` and `tcs quorum` beside those of another program that knows the same commands, on the same
+# inputs, which that program makes: `load 1 N` and `random quorum 1 N`. Of 200,000 events five runs of each by turns, and of
+# them the medians and the greatest peaks; of 100,000 and of 1,000,000 events the time that `tcs replay` takes for one event.
 #
 # The other program is $PEER. Where it is missing nothing is measured.
 set -eu
@@ -22,4 +22,6 @@ for count in 100000 200000 1000000; do
     "$peer" load 1 "$count" >"$work/$count"
 done
 python3 "$top/bench/side_by_side.py" compare "$program" "$peer" 5 "200000 events" replay "$work/200000"
+"$peer" random quorum 1 200000 >"$work/quorum"
+python3 "$top/bench/side_by_side.py" compare "$program" "$peer" 5 "200000 events" quorum "$work/quorum"
 python3 "$top/bench/side_by_side.py" growth "$program" 5 replay us 1000000 100000 "$work/100000" 1000000 "$work/1000000"

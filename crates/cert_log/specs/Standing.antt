@@ -20,3 +20,8 @@ pub record IsLog (StandsFor : List Row → Type 0) (index : List (TxId × ℕ)) 
   pub are_rows : AreRows rows
   pub is_index : IsIndexOf index rows
   pub stands : StandsFor rows
+
+-- a guard that may be kept stands for rows: it need not where there is none
+abbrev pub StandsWhere : {G : Type 0} → (G → List Row → Type 0) → Option G → List Row → Type 0
+StandsWhere stands None rows = Unit {0}
+StandsWhere stands (Some guard) rows = stands guard rows

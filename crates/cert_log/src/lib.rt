@@ -10,6 +10,7 @@ mod row_search;
 mod standing;
 #[cfg(test)]
 mod tests;
+mod votes;
 
 pub use faults::PrepareFault;
 pub use fenced::Fenced;

@@ -5,11 +5,13 @@ ghost use Rattle.tcs_terms.specs.Logs.{AreRows};
 ghost use Rattle.tcs_terms.specs.Messages.{is_slot};
 ghost use Rattle.protocol.specs.Log.{row_of, row_at, has_at, is_full, is_taken, vote_on_part, new_entry, put_entry, accepted, marked, mark_of};
 ghost use Rattle.cert_log.specs.Preparing.{prepared_entry, prepared_rows, finds_no_room};
+ghost use Rattle.cert_log.specs.Standing.{StandsWhere};
 
 use crate::faults::PrepareFault;
 use crate::marks::{mark_of, mark_row};
 use crate::row_search::{free_place, last_slot, place_of, row_at};
-use crate::standing::{guard_of, index_of};
+use crate::standing::index_of;
+use crate::votes::Votes;
 use std::alloc::Global;
 use std::collections::HashMap;
 use std::marker::Model;
@@ -24,19 +26,19 @@ pub struct CertLog<G: VoteGuard> {
     rows: Vec<Row>,
     /// The slot of each transaction's row.
     index: HashMap<TxId, Slot>,
-    guard: G,
+    votes: Votes<G>,
 }
 
 impl<G: VoteGuard> Model for CertLog<G> {
     ghost use Rattle.std.specs.Prelude.{List};
     ghost use Rattle.tcs_terms.specs.declared.logs.Row.{Row};
-    ghost use Rattle.cert_log.specs.Standing.{IsLog};
+    ghost use Rattle.cert_log.specs.Standing.{IsLog, StandsWhere};
 
     ghost Value = { List Row };
 
     ghost view = { λ l. l.rows.items };
 
-    ghost invariant = { λ l. IsLog (G.StandsFor l.guard) l.index.entries l.rows.items };
+    ghost invariant = { λ l. IsLog (StandsWhere G.StandsFor l.votes.guard) l.index.entries l.rows.items };
 }
 
 impl<G: VoteGuard> CertLog<G> {
@@ -47,7 +49,7 @@ impl<G: VoteGuard> CertLog<G> {
         CertLog {
             rows: Vec::new(alloc),
             index: HashMap::new(alloc),
-            guard: G::fresh(alloc),
+            votes: Votes::none(),
         }
     }
 
@@ -57,8 +59,11 @@ impl<G: VoteGuard> CertLog<G> {
         ensures { IfOk result (λ log. log ≡ rows.items) }
     {
         let index = index_of(alloc, &rows)?;
-        let guard = guard_of(alloc, &rows)?;
-        Ok(CertLog { rows, index, guard })
+        Ok(CertLog {
+            rows,
+            index,
+            votes: Votes::none(),
+        })
     }
 
     /// The rows, slots ascending.
@@ -135,7 +140,7 @@ impl<G: VoteGuard> CertLog<G> {
         if self.is_full() {
             return Err(PrepareFault::Full);
         }
-        let entry = self.new_entry(txn, shards, part);
+        let entry = self.new_entry(alloc, txn, shards, part)?;
         let answer = entry.copy(alloc)?;
         self.put(entry)?;
         Ok(answer)
@@ -152,6 +157,7 @@ impl<G: VoteGuard> CertLog<G> {
         if self.has_at(entry.slot, entry.txn) {
             return Ok(());
         }
+        self.votes = Votes::none();
         self.put(entry)
     }
 
@@ -160,24 +166,31 @@ impl<G: VoteGuard> CertLog<G> {
         ensures { self.new ≡ marked self.old slot (mark_of commit) }
     {
         if let Ok(at) = place_of(&self.rows, slot) {
-            mark_row(&mut self.rows, &mut self.guard, at, mark_of(commit));
+            mark_row(&mut self.rows, &mut self.votes, at, mark_of(commit));
         }
     }
 
     /// The entry of a new transaction.
-    fn new_entry(&self, txn: TxId, shards: ShardSet, part: Option<Payload>) -> Entry
-        requires { is_full self.now ≡ false }
-        ensures entry { result ≡ new_entry G.Rule.tests self.now txn shards part }
-        ensures are_rows { AreRows self.now }
+    fn new_entry(
+        &mut self,
+        alloc: Global,
+        txn: TxId,
+        shards: ShardSet,
+        part: Option<Payload>,
+    ) -> Result<Entry, OutOfMemory>
+        requires { is_full self.old ≡ false }
+        ensures entry { IfOk result (λ entry. entry ≡ new_entry G.Rule.tests self.old txn shards part) }
+        ensures are_rows { AreRows self.old }
+        ensures same { self.new ≡ self.old }
     {
-        let vote = vote_on_part(&self.guard, &self.rows, &part);
-        Entry {
+        let vote = vote_on_part(alloc, &mut self.votes, &self.rows, &part)?;
+        Ok(Entry {
             slot: last_slot(&self.rows) + 1,
             txn,
             shards,
             payload: part,
             vote,
-        }
+        })
     }
 
     /// Puts an entry in its place. What may fail comes first, so that after an `Err` the log is as before.
@@ -196,20 +209,27 @@ impl<G: VoteGuard> CertLog<G> {
             entry,
             mark: Mark::Undecided,
         };
-        self.guard.prepared(&row)?;
+        self.votes.prepared(&row)?;
         self.index.insert(txn, slot)?;
         self.rows.insert(at, row)?;
         Ok(())
     }
 }
 
-/// The vote on the part of a payload over the rows that a guard stands for: without one the preparation is lost.
-fn vote_on_part<G: VoteGuard>(guard: &G, rows: &[Row], part: &Option<Payload>) -> Vote
-    requires { G.StandsFor guard.now rows.now }
-    ensures { result ≡ vote_on_part G.Rule.tests rows.now part.now }
+/// The vote on the part of a payload over the rows: without one the preparation is lost.
+fn vote_on_part<G: VoteGuard>(
+    alloc: Global,
+    votes: &mut Votes<G>,
+    rows: &[Row],
+    part: &Option<Payload>,
+) -> Result<Vote, OutOfMemory>
+    requires are_rows { AreRows rows.now }
+    requires stands { StandsWhere G.StandsFor votes.old.guard rows.now }
+    ensures vote { IfOk result (λ vote. vote ≡ vote_on_part G.Rule.tests rows.now part.now) }
+    ensures stands { StandsWhere G.StandsFor votes.new.guard rows.now }
 {
     match part {
-        None => Vote::Lost,
-        Some(part) => guard.vote(rows, part),
+        None => Ok(Vote::Lost),
+        Some(part) => votes.vote(alloc, rows, part),
     }
 }

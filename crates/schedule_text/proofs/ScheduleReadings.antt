@@ -167,7 +167,7 @@ small_setup d is =
     record { nodes = omega arith; shards = omega arith }
 
 end_step : (d : Deployment) (count : ℕ) (es : List Event) (line : List ℕ) (x : LineItem × Progress) → Stands (at places.Events d count) es → begins (codes "end") (words_of line) ≡ true
-    → end_line_at (at places.Events d count) (words_of line) ≡ Ok x → Step (at places.Events d count) es line x
+    → end_line_at (at places.Events d count) (after (words_of line)) ≡ Ok x → Step (at places.Events d count) es line x
 unfolding end_line_at
 end_step d count es line x stands first h =
     let a = bind_ok (end_at (after (words_of line))) _ x h in
@@ -222,7 +222,7 @@ body_step : (d : Deployment) (count : ℕ) (es : List Event) (line : List ℕ) (
 unfolding event_line_at
 body_step d count es line x stands h = go (begins (codes "end") (words_of line)) refl h where
   go : (b : Bool) → begins (codes "end") (words_of line) ≡ b
-      → cond b (end_line_at (at places.Events d count) (words_of line)) (verb_line_at (at places.Events d count) (first_verb (words_of line)) (after (words_of line))) ≡ Ok x
+      → cond b (end_line_at (at places.Events d count) (after (words_of line))) (verb_line_at (at places.Events d count) (first_verb (words_of line)) (after (words_of line))) ≡ Ok x
       → Step (at places.Events d count) es line x
   go true e k = end_step d count es line x stands e k
   go false e k = verb_step d count es line (words_of line) x stands refl k

@@ -44,7 +44,7 @@ header_line_at p words = do
 -- the last line
 unfoldable pub end_line_at : Progress → List (List ℕ) → ItemRead
 end_line_at p words = do
-  end ← end_at (after words)
+  end ← end_at words
   Ok (items.End, record p { head = record { place = places.Ended; setup = p.head.setup } })
 
 -- the line of an event, of which there are at most 1,000,000
@@ -64,7 +64,7 @@ first_verb [] = None
 first_verb (w ∷ ws) = verb_of w
 
 unfoldable pub event_line_at : Progress → List (List ℕ) → ItemRead
-event_line_at p words = if begins (codes "end") words then end_line_at p words else verb_line_at p (first_verb words) (after words)
+event_line_at p words = if begins (codes "end") words then end_line_at p (after words) else verb_line_at p (first_verb words) (after words)
 
 abbrev pub line_at : Progress → Place → List (List ℕ) → ItemRead
 line_at p places.Version words = header_line_at p words

@@ -12,7 +12,7 @@ use crate::header::Header;
 use crate::limits::EVENT_LIMIT;
 use crate::lines::Got;
 use crate::places::Place;
-use crate::verbs::{Verb, verb_of};
+use crate::verbs::{Verb, is_word, verb_of};
 use crate::word_readers::end;
 use std::alloc::Global;
 use std::marker::Model;
@@ -127,22 +127,23 @@ impl LineReader {
     fn take_event_line(&mut self, words: &mut Words) -> Result<LineItem, LineFault>
         ensures { Tells (λ i. i) result self.new (event_line_at self.old words.old) }
     {
-        if words.begins(b"end") {
+        let Some(word) = words.take() else {
+            return bad(Reason::Word);
+        };
+        if is_word(word, b"end") {
             return self.take_end(words);
         }
-        let verb = first_verb(words);
-        words.skip();
-        match verb {
+        match verb_of(word) {
             Some(verb) => self.take_event(verb, words),
             None => bad(Reason::Word),
         }
     }
 
+    /// Behind the word `end` nothing stands in its line.
     #[tactic(auto, unfolding(crate::specs::Schedules::end_line_at))]
     fn take_end(&mut self, words: &mut Words) -> Result<LineItem, LineFault>
         ensures { Tells (λ i. i) result self.new (end_line_at self.old words.old) }
     {
-        words.skip();
         end(words)?;
         self.head.place = Place::Ended;
         Ok(LineItem::End)

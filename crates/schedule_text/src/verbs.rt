@@ -24,7 +24,7 @@ pub enum Verb {
 }
 
 /// Whether two words are one.
-fn is_word(word: &[u8], other: &[u8]) -> bool
+pub(crate) fn is_word(word: &[u8], other: &[u8]) -> bool
     ensures { result ≡ same_name word.now other.now }
 {
     word == other

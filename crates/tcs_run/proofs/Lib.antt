@@ -1,2 +1,3 @@
-pub mod OneWord
+pub mod Naming
 pub mod Statuses
+pub mod Answered

@@ -1,13 +1,24 @@
 -- The words by which commands are named.
-use Rattle.std.specs.Prelude.{◌≡◌, ℕ, List, [], ◌∷◌, map, codes, string_bytes, String}
+use Rattle.std.specs.Prelude.{◌≡◌, ℕ, List, [], ◌∷◌, map, codes, string_bytes, String, Option, Some, None, if◌then◌else◌}
 use Rattle.std.specs.declared.alloc.Global.{Global}
+use Rattle.tcs_terms.specs.Payloads.{same_name}
 use Rattle.tcs_run.specs.declared.command.Command.{Command}
-use Rattle.tcs_run.specs.declared.command.Command.TheVariants.{Replay}
+use Rattle.tcs_run.specs.declared.command.Command.TheVariants.{Replay, Audit, Quorum}
 
--- the one word that names a command by itself
-abbrev pub NamesInOne : Command → List ℕ → Type 0
-NamesInOne Replay word = word ≡ codes "replay"
+-- the command that a word names by itself
+abbrev pub in_one : List ℕ → Option Command
+in_one word =
+    if same_name word (codes "replay") then Some Replay
+    else if same_name word (codes "audit") then Some Audit
+    else if same_name word (codes "quorum") then Some Quorum
+    else None
 
--- the words that name a command
+-- the command that words name
+abbrev pub command_in : List (List ℕ) → Option Command
+command_in [] = None
+command_in (word ∷ []) = in_one word
+command_in (word ∷ more ∷ rest) = None
+
+-- these words name this command
 abbrev pub Names : Command → List (String Global) → Type 0
-Names Replay words = map string_bytes words ≡ codes "replay" ∷ []
+Names command words = command_in (map string_bytes words) ≡ Some command

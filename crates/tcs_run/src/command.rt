@@ -1,35 +1,42 @@
 //! The words of the command line.
-ghost use Rattle.std.specs.Prelude.{◌≡◌, MatchOption};
-ghost use Rattle.tcs_run.specs.declared.command.Command.{Command};
-ghost use Rattle.tcs_run.specs.Commands.{Names, NamesInOne};
+ghost use Rattle.std.specs.Prelude.{◌≡◌, map, string_bytes};
+ghost use Rattle.tcs_run.specs.Commands.{command_in, in_one};
+
+use tcs_terms::same_name;
 
 /// What the program is asked to do.
 #[derive(Clone, Copy, Debug, PartialEq, Eq)]
 pub enum Command {
     /// `replay`: reads a schedule, and writes the trace of its run.
     Replay,
+    /// `audit`: reads a trace, and writes the verdict on what it tells.
+    Audit,
+    /// `quorum`: reads events of a quorum store, and writes the text of their run.
+    Quorum,
 }
 
 impl Command {
-    /// The command that these words name, which are those behind the program's own name. None names two.
+    /// The command that these words name, which are those behind the program's own name.
     pub fn named(words: &[String]) -> Option<Command>
-        ensures { MatchOption result ((command : Command) → Names command words.now → ⊥)
-            (λ command. Names command words.now) }
+        ensures { result ≡ command_in (map string_bytes words.now) }
     {
         match words {
-            [word] => named_in_one(word.as_str()),
+            [word] => in_one(word.as_bytes()),
             _ => None,
         }
     }
 }
 
-/// The command that this word names by itself.
-fn named_in_one(word: &str) -> Option<Command>
-    ensures { MatchOption result ((command : Command) → NamesInOne command word.now → ⊥)
-        (λ command. NamesInOne command word.now) }
+/// The command that one word names.
+fn in_one(word: &[u8]) -> Option<Command>
+    ensures { result ≡ in_one word.now }
 {
-    if word == "replay" {
+    if same_name(word, b"replay") {
         Some(Command::Replay)
+    } else if same_name(word, b"audit") {
+        Some(Command::Audit)
+    } else if same_name(word, b"quorum") {
+        Some(Command::Quorum)
     } else {
         None
     }

@@ -2,8 +2,12 @@
 //! and how a run ends.
 #![tactic(auto)]
 
+mod audits;
 mod command;
 mod flush;
+mod performing;
+mod quorums;
+mod replays;
 mod running;
 mod status;
 #[cfg(test)]

@@ -1,28 +1,26 @@
 //! The program, over any source and any sink.
-ghost use Rattle.std.specs.Prelude.{◌≡◌, ◌≤◌, ◌⊎◌, ℕ, List, Some, IsTrue};
+ghost use Rattle.std.specs.Prelude.{◌≡◌, ◌≤◌, ℕ, List, Some};
 ghost use Rattle.tcs_io.specs.Faults.{Rose};
-ghost use Rattle.tcs_terms.specs.declared.inputs.Event.{Event};
-ghost use Rattle.text_words.specs.declared.words.Reason.{Reason};
-ghost use Rattle.tcs_terms.specs.Setups.{Deployment};
-ghost use Rattle.schedule_text.specs.declared.reader.LineItem.{LineItem};
-ghost use Rattle.schedule_text.specs.Bytes.{IsText, FirstBad};
-ghost use Rattle.replay_core.specs.declared.stops.ReplayStop.{ReplayStop};
-ghost use Rattle.replay_core.specs.Replays.{Finishes, Ends, FirstFull, WithinOn, Stayed};
-ghost use Rattle.replay_core.specs.Trace.{run_of, is_live};
+ghost use Rattle.replay_core.specs.Replays.{Finishes};
 ghost use Rattle.tcs_run.specs.declared.command.Command.{Command};
 ghost use Rattle.tcs_run.specs.Commands.{Names};
-ghost use Rattle.tcs_run.specs.Status.{status_of};
+ghost use Rattle.tcs_run.specs.Audited.{Audited};
+ghost use Rattle.tcs_run.specs.Faults.{Quiet};
+ghost use Rattle.tcs_run.specs.Replayed.{Replayed};
+ghost use Rattle.tcs_run.specs.Stored.{Stored};
 
 use crate::command::Command;
+use crate::performing::perform;
 use crate::status::Status;
-use replay_core::replay;
 use std::alloc::Global;
 use tcs_io::{Sink, Source};
 
 /// Does what the words say, which are those behind the program's own name, and answers how that ended.
 ///
 /// `replay` reads a schedule from the input, and writes the trace of its run to the output. One line after the other is
-/// read, checked, stepped and written, and what is refused first in this order of work ends the run.
+/// read, checked, stepped and written, and what is refused first in this order of work ends the run. `audit` reads a trace to
+/// its end, and writes the verdict on the history that it tells. `quorum` reads events of a quorum store, and writes the
+/// text of their run, line by line as `replay` does.
 pub fn run<S: Source, K: Sink>(
     alloc: Global,
     words: &[String],
@@ -52,29 +50,31 @@ pub fn run<S: Source, K: Sink>(
         → (bytes before : List ℕ) → S.left input.old ≡ Some bytes → K.held output.old ≡ Some before
         → result ≡ Status.Ok → Finishes bytes before (S.left input.new) (K.held output.new) }
 
-    // With each other status: which line was in work, what was read and written by then, that at most 4,097 bytes were read
-    // from that line on, and that the run so far keeps its promises.
-    ensures stopped { Names Command.Replay words.now
+    // With each other status what was read and written by then, and which status comes.
+    ensures replays { Names Command.Replay words.now
         → (bytes before : List ℕ) → S.left input.old ≡ Some bytes → K.held output.old ≡ Some before
-        → (stop : ReplayStop) → result ≡ status_of stop → Ends bytes before (S.left input.new) (K.held output.new) stop }
+        → Replayed bytes before (S.left input.new) (K.held output.new)
+        (Quiet (S.faults input.old) (S.faults input.new) (K.faults output.old) (K.faults output.new)) result }
 
-    // Which status comes, where no fault is counted and memory does not run out: `Ok` for the text of a schedule whose run
-    // stays within the limit, the first bad line, or the first event that passes the limit.
-    ensures complete { Names Command.Replay words.now
+    // ---- `audit`
+
+    // With `Ok` and `Incorrect` the bytes are a trace, and the output took the one line of the verdict on its history: that all
+    // clauses of a correct history hold, and the order that it tells is that of its commits; or the first clause that fails,
+    // and where. With each other status what was read and written by then, and which status comes.
+    ensures audits { Names Command.Audit words.now
         → (bytes before : List ℕ) → S.left input.old ≡ Some bytes → K.held output.old ≡ Some before
-        → Stayed (S.faults input.old) (S.faults input.new) → Stayed (K.faults output.old) (K.faults output.new)
-        → (d : Deployment) (es : List Event) → IsText bytes d es → IsTrue (is_live (run_of d es))
-        → (result ≡ Status.Ok) ⊎ (result ≡ Status.OutOfMemory) }
-    ensures bad { Names Command.Replay words.now
+        → Audited bytes before (S.left input.new) (K.held output.new)
+        (Quiet (S.faults input.old) (S.faults input.new) (K.faults output.old) (K.faults output.new)) result }
+
+    // ---- `quorum`
+
+    // With `Ok` the output took the text of the run of the events that the bytes tell. In that run any two stored notes of one
+    // shard and epoch have equal configurations, each of them was proposed before, and a proposer stores an epoch above 2 of
+    // a shard only after the one below. With each other status what was read and written by then, and which status comes.
+    ensures stores { Names Command.Quorum words.now
         → (bytes before : List ℕ) → S.left input.old ≡ Some bytes → K.held output.old ≡ Some before
-        → Stayed (S.faults input.old) (S.faults input.new) → Stayed (K.faults output.old) (K.faults output.new)
-        → (line : ℕ) (reason : Reason) (is : List LineItem) → FirstBad bytes line reason is → WithinOn is
-        → (result ≡ Status.Bad line reason) ⊎ (result ≡ Status.OutOfMemory) }
-    ensures full { Names Command.Replay words.now
-        → (bytes before : List ℕ) → S.left input.old ≡ Some bytes → K.held output.old ≡ Some before
-        → Stayed (S.faults input.old) (S.faults input.new) → Stayed (K.faults output.old) (K.faults output.new)
-        → (sum : ℕ) (is : List LineItem) → FirstFull bytes sum is
-        → (result ≡ Status.Full sum) ⊎ (result ≡ Status.OutOfMemory) }
+        → Stored bytes before (S.left input.new) (K.held output.new)
+        (Quiet (S.faults input.old) (S.faults input.new) (K.faults output.old) (K.faults output.new)) result }
 
     // ---- A fault is told only where it was counted.
     ensures read { S.faults input.old ≤ S.faults input.new }
@@ -84,9 +84,6 @@ pub fn run<S: Source, K: Sink>(
 {
     match Command::named(words) {
         None => Status::BadWords,
-        Some(Command::Replay) => match replay(alloc, input, output) {
-            Ok(()) => Status::Ok,
-            Err(stop) => Status::from(stop),
-        },
+        Some(command) => perform(alloc, command, input, output),
     }
 }

@@ -6,13 +6,16 @@ use tcs_io::{MemSink, MemSource, StdSink, write_all};
 use text_words::Reason;
 
 /// Each status but a bad line, its exit number, and its text.
-const STATUSES: [(Status, u8, &str); 6] = [
+const STATUSES: [(Status, u8, &str); 9] = [
     (Status::Ok, 0, "ok"),
     (Status::BadWords, 2, "bad words"),
     (Status::ReadFault, 4, "read fault"),
     (Status::WriteFault, 5, "write fault"),
     (Status::OutOfMemory, 6, "out of memory"),
     (Status::Full(268_435_457), 7, "full: 268435457 bytes"),
+    (Status::BadQuorum(7), 3, "bad quorum line 7"),
+    (Status::BadTrace(21), 3, "bad trace line 21"),
+    (Status::Incorrect, 1, "incorrect"),
 ];
 
 /// Bad lines, for each reason, and their texts.
@@ -51,7 +54,8 @@ fn other_words_are_bad(rt: HostRuntime) -> Result<(), Fail> {
         &["Replay"],
         &["replay "],
         &["replay", "replay"],
-        &["audit"],
+        &["audits"],
+        &["quorum", "replay"],
         &[""],
     ] {
         let mut words = Vec::new(rt.alloc());

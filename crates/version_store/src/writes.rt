@@ -1,11 +1,11 @@
 //! The committed writes of rows are taken in, one by one.
-ghost use Rattle.std.specs.Prelude.{◌≡◌, ℕ, List, find, Option, Some, if◌then◌else◌, option_copied, OnOk};
+ghost use Rattle.std.specs.Prelude.{◌≡◌, ℕ, List, find, Option, Some, IfOk, OnOk};
 ghost use Rattle.tcs_terms.specs.Payloads.{same_name};
 ghost use Rattle.version_store.specs.Keeping.{kept_at, goes_before, better, found_write, after_write, part_write, write_of};
 
 use crate::kept::{Kept, Writes};
 use std::alloc::Global;
-use tcs_terms::{Mark, Name, OutOfMemory, Row, Slot, WritePart};
+use tcs_terms::{Mark, OutOfMemory, Row, Slot, WritePart};
 
 /// Takes in the writes of a row if it is committed. After an error some of them may have been taken in.
 pub fn take_marked(alloc: Global, writes: &mut Writes, row: &Row) -> Result<(), OutOfMemory>
@@ -45,7 +45,7 @@ fn take_writes(
     Ok(())
 }
 
-/// Takes in one write, if it goes before what is kept of its object.
+/// Takes in one write, if it goes before what is kept of its object. Version 0 is that of no write.
 fn take_write(
     alloc: Global,
     writes: &mut Writes,
@@ -56,38 +56,49 @@ fn take_write(
     ensures { OnOk result ((name : List ℕ) → kept_at writes.new name
         ≡ after_write name slot version (kept_at writes.old name) part.now) }
 {
-    if goes_before(version, slot, writes.get(&part.name)) {
-        let value = part.value.copy(alloc)?;
-        let kept = Kept {
-            version,
-            slot,
-            value,
-        };
-        keep(writes, &part.name, kept)?;
-    }
-    Ok(())
-}
-
-/// Whether a write goes before what is kept of its object. Version 0 is that of no write.
-fn goes_before(version: u64, slot: Slot, kept: Option<&Kept>) -> bool
-    ensures { result ≡ goes_before version slot (option_copied kept.entry) }
-{
-    match kept {
-        None => version > 0,
-        Some(kept) => version > kept.version || (version == kept.version && slot < kept.slot),
-    }
-}
-
-/// Keeps a write of an object in place of what was kept of it.
-fn keep(writes: &mut Writes, name: &Name, kept: Kept) -> Result<(), OutOfMemory>
-    ensures { OnOk result ((q : List ℕ) → kept_at writes.new q
-        ≡ (if same_name name.now q then Some kept else kept_at writes.old q)) }
-{
-    match writes.get_mut(name) {
-        Some(place) => *place = kept,
+    match writes.get_mut(&part.name) {
+        Some(kept) => improve(alloc, kept, slot, version, part)?,
         None => {
-            writes.insert(name.again(), kept)?;
+            if version > 0 {
+                let kept = kept_of(alloc, slot, version, part)?;
+                writes.insert(part.name.again(), kept)?;
+            }
         }
     }
     Ok(())
+}
+
+/// Replaces what is kept of an object by a write that goes before it.
+fn improve(
+    alloc: Global,
+    kept: &mut Kept,
+    slot: Slot,
+    version: u64,
+    part: &WritePart,
+) -> Result<(), OutOfMemory>
+    ensures { OnOk result (Some kept.new ≡ better (Some kept.old) (found_write slot version (Some part.now))) }
+{
+    if goes_before(version, slot, kept) {
+        *kept = kept_of(alloc, slot, version, part)?;
+    }
+    Ok(())
+}
+
+/// Whether a write goes before the one that is kept of its object.
+fn goes_before(version: u64, slot: Slot, kept: &Kept) -> bool
+    ensures { result ≡ goes_before version slot (Some kept.now) }
+{
+    version > kept.version || (version == kept.version && slot < kept.slot)
+}
+
+/// A write, as it is kept.
+fn kept_of(alloc: Global, slot: Slot, version: u64, part: &WritePart) -> Result<Kept, OutOfMemory>
+    ensures { IfOk result (λ kept. Some kept ≡ found_write slot version (Some part.now)) }
+{
+    let value = part.value.copy(alloc)?;
+    Ok(Kept {
+        version,
+        slot,
+        value,
+    })
 }

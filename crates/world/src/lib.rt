@@ -6,6 +6,7 @@
 mod arena;
 mod casts;
 mod happenings;
+mod limits;
 mod orders;
 mod peers;
 mod stopped;
@@ -13,4 +14,5 @@ mod turns;
 mod worlds;
 
 pub use happenings::{Happening, Posted, Stop};
+pub use limits::MAX_EVENTS;
 pub use worlds::World;

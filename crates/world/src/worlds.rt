@@ -1,7 +1,8 @@
 //! A run, kept step by step.
-ghost use Rattle.std.specs.Prelude.{◌≡◌, ◌+◌, ◌-◌, ◌<◌, ◌≤◌, ◌++◌, ◌∷◌, [], false, length, drop, List, IsTrue, IfOk, IfErr, option_copied};
+ghost use Rattle.std.specs.Prelude.{◌≡◌, ◌+◌, ◌-◌, ◌<◌, ◌≤◌, nat_lt, ◌&&◌, ◌++◌, ◌∷◌, [], false, length, drop, List, IsTrue, IfOk, IfErr, option_copied};
 ghost use Rattle.std.specs.Option.{option_map};
 ghost use Rattle.tcs_terms.specs.declared.inputs.Event.{Event};
+ghost use Rattle.tcs_terms.specs.Events.{event_fits};
 ghost use Rattle.tcs_terms.specs.Places.{is_among};
 ghost use Rattle.tcs_terms.specs.Runs.{MayStand, AreEventsOf};
 ghost use Rattle.protocol.specs.History.{order_of};
@@ -9,12 +10,14 @@ ghost use Rattle.protocol.specs.Limit.{frame_limit, limited_step, limited_run};
 ghost use Rattle.protocol.specs.Limit.Progress.{Live};
 ghost use Rattle.protocol.specs.World.{first_world, message_of, node_of};
 ghost use Rattle.protocol_laws.specs.Promises.{world_of, KeepsItsPromises};
+ghost use Rattle.world.specs.declared.limits.TheConstants.{MAX_EVENTS};
 ghost use Rattle.world.specs.Posting.{IsPosted, IsFrame};
 ghost use Rattle.world.specs.WorldState.{events_of, Tells, is_memory};
 
 use crate::arena::Arena;
 use crate::casts::Cast;
 use crate::happenings::{Happening, Posted, Stop};
+use crate::limits::MAX_EVENTS;
 use crate::turns::{Ledger, take_turn};
 use indexmap::IndexSet;
 use node_core::Node;
@@ -71,6 +74,7 @@ impl<G: VoteGuard> World<G> {
                 arena: Arena::new(alloc),
                 history: Vec::new(alloc),
                 order: IndexSet::new(alloc),
+                room: Vec::new(alloc),
             },
             events: 0,
             full: None,
@@ -158,6 +162,15 @@ impl<G: VoteGuard> World<G> {
         }
     }
 
+    /// Whether this may be the next event: it fits the setup, and fewer than 1,000,000 events were taken.
+    pub fn takes(&self, event: &Event) -> bool
+        ensures exact { result ≡ (nat_lt (events_of self.now.progress) MAX_EVENTS && event_fits self.now.setup event.now) }
+        ensures may { IsTrue result → MayStand self.now.setup event.now }
+        ensures few { IsTrue result → events_of self.now.progress < MAX_EVENTS }
+    {
+        self.events() < MAX_EVENTS && self.setup().fits(event)
+    }
+
     /// Takes an event. In a world whose messages would have passed the limit each event has the same answer.
     ///
     /// # Errors
@@ -165,7 +178,7 @@ impl<G: VoteGuard> World<G> {
     /// event is kept then, and no node is left.
     pub fn step(&mut self, event: Event) -> Result<Happening, Stop>
         requires may { MayStand self.old.setup event }
-        requires few { events_of self.old.progress < 1000000 }
+        requires few { events_of self.old.progress < MAX_EVENTS }
         ensures answer { Tells result (limited_step G.Rule.tests self.old.setup.version self.old.progress event).answer }
         ensures record { self.new.spent ≡ false
             → self.new.progress ≡ (limited_step G.Rule.tests self.old.setup.version self.old.progress event).after }

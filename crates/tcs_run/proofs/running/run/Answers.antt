@@ -1,40 +1,33 @@
-use Rattle.std.proofs.Common.{inr, ◌∙◌, ap}
-use Rattle.replay_core.specs.declared.stops.ReplayStop.TheVariants.{Bad, Full, OutOfMemory}
-use Rattle.tcs_run.specs.declared.command.Command.TheVariants.{Replay}
-use Rattle.tcs_run.specs.Status.{status_of}
-use Rattle.tcs_run.proofs.Statuses.{one_of_two}
+-- Words that name a command name no other, so that what is said of the others is said of no run.
+use Rattle.std.proofs.Common.{sym}
+use Rattle.tcs_run.specs.declared.command.Command.TheVariants.{Replay, Audit, Quorum}
+use Rattle.tcs_run.proofs.Naming.{one_command, no_command}
 use Rattle.tcs_run.proofs.running.run.Goals as goal
 
-pub returns-in-None-clause-complete : goal.returns-in-None-clause-complete
-returns-in-None-clause-complete g c = λ named bytes before told holds quiet_input quiet_output d es text live. absurd (c.in-None.ensures Replay named)
+pub returns-in-None-clause-named : goal.returns-in-None-clause-named
+returns-in-None-clause-named g c = λ command named. absurd (no_command command c.args.words.now (sym c.in-None.ensures) named)
 
-pub returns-in-None-clause-bad : goal.returns-in-None-clause-bad
-returns-in-None-clause-bad g c = λ named bytes before told holds quiet_input quiet_output line reason is bad within. absurd (c.in-None.ensures Replay named)
+pub returns-in-None-clause-replays : goal.returns-in-None-clause-replays
+returns-in-None-clause-replays g c = λ named. absurd (no_command Replay c.args.words.now (sym c.in-None.ensures) named)
 
-pub returns-in-None-clause-full : goal.returns-in-None-clause-full
-returns-in-None-clause-full g c = λ named bytes before told holds quiet_input quiet_output sum is full. absurd (c.in-None.ensures Replay named)
+pub returns-in-None-clause-audits : goal.returns-in-None-clause-audits
+returns-in-None-clause-audits g c = λ named. absurd (no_command Audit c.args.words.now (sym c.in-None.ensures) named)
 
-pub returns-in-Ok-clause-headline : goal.returns-in-Ok-clause-headline
-returns-in-Ok-clause-headline g c = λ named bytes before told holds ok. c.in-Ok.ensures.whole bytes before told holds
+pub returns-in-None-clause-stores : goal.returns-in-None-clause-stores
+returns-in-None-clause-stores g c = λ named. absurd (no_command Quorum c.args.words.now (sym c.in-None.ensures) named)
 
-pub returns-in-Ok-clause-bad : goal.returns-in-Ok-clause-bad
-returns-in-Ok-clause-bad g c = λ named bytes before told holds quiet_input quiet_output line reason is bad within.
-    absurd (c.in-Ok.ensures.bad bytes before told holds quiet_input quiet_output line reason is bad within)
+pub returns-in-Some-clause-unnamed : goal.returns-in-Some-clause-unnamed
+returns-in-Some-clause-unnamed g c = λ none. absurd (none c.in-Some.command (sym c.in-Some.ensures))
 
-pub returns-in-Ok-clause-full : goal.returns-in-Ok-clause-full
-returns-in-Ok-clause-full g c = λ named bytes before told holds quiet_input quiet_output sum is full.
-    absurd (c.in-Ok.ensures.full bytes before told holds quiet_input quiet_output sum is full)
+pub returns-in-Some-clause-headline : goal.returns-in-Some-clause-headline
+returns-in-Some-clause-headline g c = λ named bytes before told holds ok.
+    (c.perform.ensures.replays (one_command c.in-Some.command Replay c.args.words.now (sym c.in-Some.ensures) named) bytes before told holds).whole ok
 
-pub returns-in-Err-clause-complete : goal.returns-in-Err-clause-complete
-returns-in-Err-clause-complete g c = λ named bytes before told holds quiet_input quiet_output d es text live.
-    inr (c.from.ensures ∙ ap status_of (c.in-Err.ensures.complete bytes before told holds quiet_input quiet_output d es text live))
+pub returns-in-Some-clause-replays : goal.returns-in-Some-clause-replays
+returns-in-Some-clause-replays g c = λ named. c.perform.ensures.replays (one_command c.in-Some.command Replay c.args.words.now (sym c.in-Some.ensures) named)
 
-pub returns-in-Err-clause-bad : goal.returns-in-Err-clause-bad
-returns-in-Err-clause-bad g c = λ named bytes before told holds quiet_input quiet_output line reason is bad within.
-    one_of_two c.from.result c.in-Err.stop (Bad line reason) OutOfMemory c.from.ensures
-    (c.in-Err.ensures.bad bytes before told holds quiet_input quiet_output line reason is bad within)
+pub returns-in-Some-clause-audits : goal.returns-in-Some-clause-audits
+returns-in-Some-clause-audits g c = λ named. c.perform.ensures.audits (one_command c.in-Some.command Audit c.args.words.now (sym c.in-Some.ensures) named)
 
-pub returns-in-Err-clause-full : goal.returns-in-Err-clause-full
-returns-in-Err-clause-full g c = λ named bytes before told holds quiet_input quiet_output sum is full.
-    one_of_two c.from.result c.in-Err.stop (Full sum) OutOfMemory c.from.ensures
-    (c.in-Err.ensures.full bytes before told holds quiet_input quiet_output sum is full)
+pub returns-in-Some-clause-stores : goal.returns-in-Some-clause-stores
+returns-in-Some-clause-stores g c = λ named. c.perform.ensures.stores (one_command c.in-Some.command Quorum c.args.words.now (sym c.in-Some.ensures) named)

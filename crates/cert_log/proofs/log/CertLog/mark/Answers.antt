@@ -3,6 +3,7 @@ use Rattle.std.proofs.Common.{◌≡◌, sym, ap, ◌∙◌, subst}
 use Rattle.std.specs.Prelude.{slice_index}
 use Rattle.protocol.specs.Log.{marked, mark_of, set_mark}
 use Rattle.cert_log.specs.Places.{slots_of, SplitsAt}
+use Rattle.cert_log.specs.Standing.{StandsWhere}
 use Rattle.cert_log.proofs.Changing.{log_marked}
 use Rattle.cert_log.proofs.Marking.{changed_none}
 use Rattle.cert_log.proofs.Splitting.{split_is_free}
@@ -10,7 +11,7 @@ use Rattle.cert_log.proofs.log.CertLog.mark.Goals as goal
 
 pub invariant_of-self : goal.invariant_of-self
 invariant_of-self g c =
-    log_marked (g.G.VoteGuard.StandsFor c.self.inside.guard) (g.G.VoteGuard.StandsFor c.mark_row.new.guard) c.self.inside.index.entries c.self.inside.rows.items
+    log_marked (StandsWhere g.G.VoteGuard.StandsFor c.self.inside.votes.guard) (StandsWhere g.G.VoteGuard.StandsFor c.mark_row.new.votes.guard) c.self.inside.index.entries c.self.inside.rows.items
     c.mark_row.new.rows.items (slice_index (slots_of c.self.inside.rows.items) c.in-Ok.at) c.mark_of.result c.self.invariant c.mark_row.ensures.rows c.mark_row.ensures.stands
 
 pub returns-in-Ok : goal.returns-in-Ok

@@ -5,4 +5,4 @@ use Rattle.cert_log.proofs.Voting.{vote_keeps}
 use Rattle.cert_log.proofs.log.CertLog.new_entry.Goals as goal
 
 pub invariant_of-result : goal.invariant_of-result
-invariant_of-result g c = subst (λ vote. KeepsPayload c.args.part vote) (sym c.vote_on_part-vote.ensures) (vote_keeps _ _ c.args.part)
+invariant_of-result g c = subst (λ vote. KeepsPayload c.args.part vote) (sym c.in_ok-vote.ensures.vote) (vote_keeps _ _ c.args.part)

@@ -1,0 +1,4 @@
+//! What an audit says of the traces that a replay writes.
+#![tactic(auto)]
+
+pub mod traces;

@@ -1,0 +1,2 @@
+pub mod FirstTaken
+pub mod Carrying

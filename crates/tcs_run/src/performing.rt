@@ -1,0 +1,47 @@
+//! The commands, one by one.
+ghost use Rattle.std.specs.Prelude.{◌≡◌, ◌≤◌, ℕ, List, Some};
+ghost use Rattle.tcs_io.specs.Faults.{Rose};
+ghost use Rattle.tcs_run.specs.Audited.{Audited};
+ghost use Rattle.tcs_run.specs.Faults.{Quiet};
+ghost use Rattle.tcs_run.specs.Replayed.{Replayed};
+ghost use Rattle.tcs_run.specs.Stored.{Stored};
+
+use crate::audits::audited;
+use crate::command::Command;
+use crate::quorums::stored;
+use crate::replays::replayed;
+use crate::status::Status;
+use std::alloc::Global;
+use tcs_io::{Sink, Source};
+
+/// Does what a command is for.
+pub(crate) fn perform<S: Source, K: Sink>(
+    alloc: Global,
+    command: Command,
+    input: &mut S,
+    output: &mut K,
+) -> Status
+    ensures replays { command ≡ Command.Replay
+        → (bytes before : List ℕ) → S.left input.old ≡ Some bytes → K.held output.old ≡ Some before
+        → Replayed bytes before (S.left input.new) (K.held output.new)
+        (Quiet (S.faults input.old) (S.faults input.new) (K.faults output.old) (K.faults output.new)) result }
+    ensures audits { command ≡ Command.Audit
+        → (bytes before : List ℕ) → S.left input.old ≡ Some bytes → K.held output.old ≡ Some before
+        → Audited bytes before (S.left input.new) (K.held output.new)
+        (Quiet (S.faults input.old) (S.faults input.new) (K.faults output.old) (K.faults output.new)) result }
+    ensures stores { command ≡ Command.Quorum
+        → (bytes before : List ℕ) → S.left input.old ≡ Some bytes → K.held output.old ≡ Some before
+        → Stored bytes before (S.left input.new) (K.held output.new)
+        (Quiet (S.faults input.old) (S.faults input.new) (K.faults output.old) (K.faults output.new)) result }
+    ensures known { result ≡ Status.BadWords → ⊥ }
+    ensures read { S.faults input.old ≤ S.faults input.new }
+    ensures wrote { K.faults output.old ≤ K.faults output.new }
+    ensures read_fault { result ≡ Status.ReadFault → Rose (S.faults input.old) (S.faults input.new) }
+    ensures write_fault { result ≡ Status.WriteFault → Rose (K.faults output.old) (K.faults output.new) }
+{
+    match command {
+        Command::Replay => replayed(alloc, input, output),
+        Command::Audit => audited(alloc, input, output),
+        Command::Quorum => stored(alloc, input, output),
+    }
+}

@@ -1,0 +1,10 @@
+pub mod Lists
+pub mod Marks
+pub mod Spelled
+pub mod Asked
+pub mod Notes
+pub mod OfVersion
+pub mod Fits
+pub mod Shown
+pub mod Counted
+pub mod TraceOf
