@@ -98,14 +98,7 @@ impl<G: VoteGuard> Cast<G> {
     }
 
     /// A node is given an input, unless it has stopped.
-    fn give(
-        &mut self,
-        alloc: Global,
-        room: Vec<Outgoing>,
-        name: NodeId,
-        input: Input,
-    ) -> Result<Doing, OutOfMemory>
-        requires empty { room.items ≡ [] }
+    fn give(&mut self, alloc: Global, name: NodeId, input: Input) -> Result<Doing, OutOfMemory>
         requires from_one { 1 ≤ name }
         requires range { InputInRange input }
         ensures { IfOk result (λ doing. IsDone doing self.new (given G.Rule.tests self.old name input)) }
@@ -116,7 +109,7 @@ impl<G: VoteGuard> Cast<G> {
         if name > self.peers.len() {
             return Ok(Doing::nothing(alloc, Result1::Gone));
         }
-        let (mut sends, mut notes) = (room, Vec::new(alloc));
+        let (mut sends, mut notes) = (Vec::new(alloc), Vec::new(alloc));
         let handled = self.peers.step(name, input, &mut sends, &mut notes)?;
         Ok(Doing {
             result: Result1::Node(handled),
@@ -130,14 +123,12 @@ impl<G: VoteGuard> Cast<G> {
     fn serve(
         &mut self,
         alloc: Global,
-        room: Vec<Outgoing>,
         from: NodeId,
         message: &Message,
     ) -> Result<Doing, OutOfMemory>
-        requires { room.items ≡ [] }
         ensures { IfOk result (λ doing. IsDone doing self.new (served self.old from message.now)) }
     {
-        let mut sends = room;
+        let mut sends = Vec::new(alloc);
         let nodes = self.peers.len();
         let handled = self.service.serve(alloc, nodes, from, message, &mut sends)?;
         Ok(Doing {
@@ -149,14 +140,8 @@ impl<G: VoteGuard> Cast<G> {
     }
 
     /// A message reaches its receiver.
-    fn deliver(
-        &mut self,
-        alloc: Global,
-        room: Vec<Outgoing>,
-        delivery: Delivery,
-    ) -> Result<Doing, OutOfMemory>
-        requires empty { room.items ≡ [] }
-        requires range { InRange delivery.message }
+    fn deliver(&mut self, alloc: Global, delivery: Delivery) -> Result<Doing, OutOfMemory>
+        requires { InRange delivery.message }
         ensures { IfOk result (λ doing. IsDone doing self.new (delivered G.Rule.tests self.old (record {
           from = delivery.from;
           to = delivery.to;
@@ -165,26 +150,24 @@ impl<G: VoteGuard> Cast<G> {
     {
         let Delivery { from, to, message } = delivery;
         if to == SERVICE {
-            return self.serve(alloc, room, from, &message);
+            return self.serve(alloc, from, &message);
         }
-        self.give(alloc, room, to, Input::Deliver { from, message })
+        self.give(alloc, to, Input::Deliver { from, message })
     }
 
     /// The message of a number is delivered, if it was sent.
     fn deliver_number(
         &mut self,
         alloc: Global,
-        room: Vec<Outgoing>,
         arena: &Arena,
         number: u32,
     ) -> Result<Doing, OutOfMemory>
-        requires { room.items ≡ [] }
         ensures { IfOk result (λ doing. IsDone doing self.new (delivered_if_sent G.Rule.tests self.old (message_of arena.now number))) }
     {
         let taken = arena.take(alloc, number)?;
         match taken {
             None => Ok(Doing::nothing(alloc, Result1::Unsent)),
-            Some(delivery) => self.deliver(alloc, room, delivery),
+            Some(delivery) => self.deliver(alloc, delivery),
         }
     }
 
@@ -199,21 +182,19 @@ impl<G: VoteGuard> Cast<G> {
         Ok(Doing::nothing(alloc, Result1::Node(Handled::Acted)))
     }
 
-    /// An event, given the messages that were sent. What it sends is put into this room, which is empty.
+    /// An event, given the messages that were sent.
     pub(crate) fn take_event(
         &mut self,
         alloc: Global,
-        room: Vec<Outgoing>,
         arena: &Arena,
         event: Event,
     ) -> Result<Doing, OutOfMemory>
-        requires empty { room.items ≡ [] }
-        requires may { MayReach event }
+        requires { MayReach event }
         ensures { IfOk result (λ doing. IsDone doing self.new (does G.Rule.tests self.old arena.now event)) }
     {
         match event {
-            Event::Call { node, input } => self.give(alloc, room, node, input),
-            Event::DeliverNumber(number) => self.deliver_number(alloc, room, arena, number),
+            Event::Call { node, input } => self.give(alloc, node, input),
+            Event::DeliverNumber(number) => self.deliver_number(alloc, arena, number),
             Event::Stop(name) => self.stop(alloc, name),
         }
     }

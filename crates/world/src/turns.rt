@@ -1,5 +1,5 @@
 //! One event of a run: what it makes of the cast, and what of it is kept.
-ghost use Rattle.std.specs.Prelude.{◌≡◌, ◌≤◌, [], length, All, IfOk, IfErr};
+ghost use Rattle.std.specs.Prelude.{◌≡◌, ◌≤◌, length, All, IfOk, IfErr};
 ghost use Rattle.tcs_terms.specs.Messages.{InRange};
 ghost use Rattle.protocol.specs.Limit.{frame_limit};
 ghost use Rattle.protocol.specs.World.{message_of};
@@ -14,9 +14,8 @@ use crate::orders::keep_commits;
 use indexmap::IndexSet;
 use std::alloc::Global;
 use std::marker::Model;
-use std::mem;
 use tcs_laws::VoteGuard;
-use tcs_terms::{Event, Note, Outgoing, TxId};
+use tcs_terms::{Event, Note, TxId};
 
 /// What a run keeps of its events: the messages, the history, and the order of commits.
 #[derive(Drop)]
@@ -24,8 +23,6 @@ pub(crate) struct Ledger {
     pub(crate) arena: Arena,
     pub(crate) history: Vec<Note>,
     pub(crate) order: IndexSet<TxId>,
-    /// Room for what an event sends, kept from event to event.
-    pub(crate) room: Vec<Outgoing>,
 }
 
 impl Model for Ledger {
@@ -71,15 +68,6 @@ impl Ledger {
     }
 }
 
-/// The room that is kept, without what was in it.
-fn empty_room(alloc: Global, kept: &mut Vec<Outgoing>) -> Vec<Outgoing>
-    ensures { result.items ≡ [] }
-{
-    let mut room = mem::replace(kept, Vec::new(alloc));
-    room.clear();
-    room
-}
-
 /// Takes an event. Where its messages would pass the limit, none of them is kept, and nothing is noted.
 pub(crate) fn take_turn<G: VoteGuard>(
     alloc: Global,
@@ -92,8 +80,7 @@ pub(crate) fn take_turn<G: VoteGuard>(
     ensures turned { IfOk result (λ h. Turned h (does G.Rule.tests cast.old ledger.old.messages event) cast.new ledger.old ledger.new) }
     ensures full { IfErr result (λ stop. IsFilled stop (does G.Rule.tests cast.old ledger.old.messages event) cast.new ledger.old ledger.new) }
 {
-    let room = empty_room(alloc, &mut ledger.room);
-    let mut doing = match cast.take_event(alloc, room, &ledger.arena, event) {
+    let mut doing = match cast.take_event(alloc, &ledger.arena, event) {
         Ok(doing) => doing,
         Err(_) => return Err(Stop::OutOfMemory),
     };
@@ -107,6 +94,5 @@ pub(crate) fn take_turn<G: VoteGuard>(
     };
     keep_commits(&mut ledger.order, &doing.notes)?;
     ledger.history.append(&mut doing.notes)?;
-    ledger.room = doing.sends;
     Ok(happening)
 }

@@ -74,7 +74,6 @@ impl<G: VoteGuard> World<G> {
                 arena: Arena::new(alloc),
                 history: Vec::new(alloc),
                 order: IndexSet::new(alloc),
-                room: Vec::new(alloc),
             },
             events: 0,
             full: None,

@@ -4,8 +4,8 @@ use Rattle.world.specs.Turns.{LedgerState}
 use Rattle.world.proofs.Turning.{filled, turned}
 use Rattle.world.proofs.turns.take_turn.Goals as goal
 
-pub take_event-requires-clause-may : goal.take_event-requires-clause-may
-take_event-requires-clause-may g c = c.requires.may
+pub take_event-requires : goal.take_event-requires
+take_event-requires g c = c.requires.may
 
 pub post-requires : goal.post-requires
 post-requires g c = rw (c.deref.ensures.value, c.in-Ok.ensures.sends) (rw (← c.ledger.view_is) at c.requires.range)

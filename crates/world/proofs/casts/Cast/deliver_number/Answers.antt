@@ -7,8 +7,8 @@ returns-in-None g c =
     let e = c.nothing.ensures in
     rw (none_there _ (rw c.in-None.is at c.in_ok-taken.ensures)) (record { result = e.result; from = e.from; sends = e.sends; notes = e.notes; after = refl })
 
-pub deliver-requires-clause-range : goal.deliver-requires-clause-range
-deliver-requires-clause-range g c = (some_there _ _ (rw c.in-Some.is at c.in_ok-taken.ensures)).1
+pub deliver-requires : goal.deliver-requires
+deliver-requires g c = (some_there _ _ (rw c.in-Some.is at c.in_ok-taken.ensures)).1
 
 pub returns-in-Some : goal.returns-in-Some
 returns-in-Some g c = rw (some_there _ _ (rw c.in-Some.is at c.in_ok-taken.ensures)).0 c.deliver.ensures

@@ -25,7 +25,7 @@ returns g c =
     (record {
       result = ap (λ (h : Handled). Node h) (e.answer t.node t.is);
       from = refl;
-      sends = rw c.requires.empty at (e.sends t.node t.is);
-      notes = rw c.new.ensures.items at (e.notes t.node t.is);
+      sends = rw c.new-sends.ensures.items at (e.sends t.node t.is);
+      notes = rw c.new-notes.ensures.items at (e.notes t.node t.is);
       after = ap (λ (p : Peers). let k : Cast = record { peers = p; configs = c.self.inside.service; stopped = c.self.inside.stopped } in k) (e.kept t.node t.is);
     }))

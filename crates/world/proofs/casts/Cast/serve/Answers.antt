@@ -12,7 +12,7 @@ returns g c =
     rw (← c.self.view_is) (record {
       result = ap (λ (h : Handled). Node h) e.answer;
       from = refl;
-      sends = rw c.requires at e.sends;
+      sends = rw c.new-sends.ensures.items at e.sends;
       notes = c.new.ensures.items ∙ sym (serves_silently (length c.self.inside.peers.nodes) c.self.inside.service c.args.from c.args.message.now);
       after = ap (λ (s : List Membership). let k : Cast = record { peers = c.self.inside.peers; configs = s; stopped = c.self.inside.stopped } in k) e.kept;
     })
