@@ -13,19 +13,17 @@ fn begins_a_part(line: &[u8]) -> bool {
 /// What a trace has before the part of this number, from 0: its head and the parts of so many events.
 pub(crate) fn front(trace: &[u8], parts: usize) -> &[u8] {
     let mut seen: usize = 0;
-    let mut start: usize = 0;
     for (place, byte) in trace.iter().enumerate() {
         if *byte != b'\n' {
             continue;
         }
-        let next = &trace[place + 1..];
-        start = place + 1;
+        let (before, next) = trace.split_at(place + 1);
         if begins_a_part(next) {
             if seen == parts {
-                return &trace[..start];
+                return before;
             }
             seen = seen.saturating_add(1);
         }
     }
-    &trace[..start]
+    trace
 }

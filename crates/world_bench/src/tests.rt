@@ -62,14 +62,12 @@ fn certify(alloc: Global, world: &mut Indexed) -> Result<Option<Came>, Fail> {
 
 /// How often message 1 was delivered, and answered by one message, at most so many times.
 fn deliver_often(world: &mut Indexed, most: u32) -> u32 {
-    let mut delivered = 0;
-    for _ in 0..most {
+    for delivered in 0..most {
         if step(world, Event::DeliverNumber(1)) != Some(Came::Stepped(0, 1)) {
-            break;
+            return delivered;
         }
-        delivered += 1;
     }
-    delivered
+    most
 }
 
 /// What a full world tells of itself: its events, messages, notes and commits.
