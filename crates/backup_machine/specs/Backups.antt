@@ -1,5 +1,5 @@
 -- A backup, and why it refuses a call.
-use Rattle.std.specs.Prelude.{ℕ, ◌+◌, ◌-◌, ◌≤◌, Bool, true, false, not, ◌&&◌, ◌||◌, ◌==◌, nat_le, nat_lt, if◌then◌else◌, List, [], ◌∷◌, ◌++◌, length, map, set, Option, Some, None, is_some, IsTrue}
+use Rattle.std.specs.Prelude.{ℕ, ◌+◌, ◌-◌, ◌≤◌, Bool, true, false, not, ◌&&◌, ◌==◌, nat_le, nat_lt, if◌then◌else◌, List, [], ◌∷◌, ◌++◌, length, map, set, Option, Some, None, IsTrue}
 use Rattle.std.specs.List.{list_all, slice_get}
 use Rattle.tcs_terms.specs.Order.{name_before}
 use Rattle.tcs_terms.specs.Payloads.{Accesses}
@@ -12,19 +12,20 @@ use Rattle.backup_machine.specs.declared.objects.TheConstants.{MAX_OBJECTS}
 use Rattle.backup_machine.specs.Objects.{in_range, comes_after, AreOf, none_behind}
 use Rattle.backup_machine.specs.Slices.{all_slices}
 
--- the range and the width of a slice, the last name that was given, what is kept, and, once the payloads were handed
--- out, the outcome of each
+-- the range and the width of a slice, the last name that was given, what is kept, whether the payloads were handed out,
+-- and the outcome of each, where it is known
 pub record BackupRecord : Type 0 where
   pub from : List ℕ
   pub upto : List ℕ
   pub width : ℕ
   pub last : Option (List ℕ)
   pub kept : List Kept
-  pub outcomes : Option (List (Option Decision))
+  pub waiting : Bool
+  pub outcomes : List (Option Decision)
 
 -- a backup that was given nothing
 abbrev pub empty : List ℕ → List ℕ → ℕ → BackupRecord
-empty from upto width = record { from = from; upto = upto; width = width; last = None; kept = []; outcomes = None }
+empty from upto width = record { from = from; upto = upto; width = width; last = None; kept = []; waiting = false; outcomes = [] }
 
 -- why there is no backup of a range
 abbrev pub new_fault : List ℕ → List ℕ → ℕ → Option BackupFault
@@ -36,7 +37,7 @@ new_fault from upto width =
 -- why a value is refused, the first reason
 abbrev pub value_fault : BackupRecord → List ℕ → ℕ → Option BackupFault
 value_fault b name version =
-    if is_some b.outcomes then Some NotActive
+    if b.waiting then Some NotActive
     else if not (in_range b.from b.upto name) then Some Outside
     else if not (comes_after b.last name) then Some Order
     else if version == 18446744073709551615 then Some VersionSpent
@@ -52,7 +53,7 @@ with_value b k = record b { last = Some k.name; kept = with_object k b.kept }
 
 -- why there are no payloads
 abbrev pub payloads_fault : BackupRecord → Option BackupFault
-payloads_fault b = if is_some b.outcomes then Some NotActive else None
+payloads_fault b = if b.waiting then Some NotActive else None
 
 -- the payload of each slice
 abbrev pub payloads : BackupRecord → List Accesses
@@ -63,7 +64,7 @@ abbrev pub no_outcome : Accesses → Option Decision
 no_outcome p = None
 
 abbrev pub handed_out : BackupRecord → BackupRecord
-handed_out b = record b { outcomes = Some (map no_outcome (payloads b)) }
+handed_out b = record b { waiting = true; outcomes = map no_outcome (payloads b) }
 
 -- whether this is a place that has no outcome yet
 abbrev pub is_open : Option (Option Decision) → Bool
@@ -71,33 +72,26 @@ is_open None = false
 is_open (Some None) = true
 is_open (Some (Some decision)) = false
 
--- whether a slice, numbered from 1, waits for its outcome
-abbrev pub waits : Option (List (Option Decision)) → ℕ → Bool
-waits None slice = false
-waits (Some outcomes) slice = nat_le 1 slice && is_open (slice_get outcomes (slice - 1))
+-- whether a slice, numbered from 1, has no outcome yet
+abbrev pub lacks_outcome : List (Option Decision) → ℕ → Bool
+lacks_outcome outcomes slice = nat_le 1 slice && is_open (slice_get outcomes (slice - 1))
 
 -- why an outcome is refused
 abbrev pub outcome_fault : BackupRecord → ℕ → Option BackupFault
-outcome_fault b slice = if waits b.outcomes slice then None else Some NotWaiting
+outcome_fault b slice = if b.waiting && lacks_outcome b.outcomes slice then None else Some NotWaiting
 
 -- the slice has this outcome
-abbrev pub with_outcome : Option (List (Option Decision)) → ℕ → Decision → Option (List (Option Decision))
-with_outcome None slice decision = None
-with_outcome (Some outcomes) slice decision = Some (set outcomes (slice - 1) (Some decision))
+abbrev pub with_outcome : BackupRecord → ℕ → Decision → BackupRecord
+with_outcome b slice decision = record b { outcomes = set b.outcomes (slice - 1) (Some decision) }
 
 abbrev pub is_commit : Option Decision → Bool
 is_commit None = false
 is_commit (Some Commit) = true
 is_commit (Some (Abort shard cause)) = false
 
--- whether each slice has the outcome to commit
-abbrev pub all_commit : Option (List (Option Decision)) → Bool
-all_commit None = false
-all_commit (Some outcomes) = list_all is_commit outcomes
-
 -- what is kept, once each slice is known to commit
 abbrev pub file : BackupRecord → Option (List Kept)
-file b = if all_commit b.outcomes then Some b.kept else None
+file b = if b.waiting && list_all is_commit b.outcomes then Some b.kept else None
 
 -- slices are 1 to 16 wide; no more objects are kept than may be, each of the range, and none behind the last name
 pub record IsBackup (b : BackupRecord) : Type 0 where

@@ -1,9 +1,8 @@
 //! The outcomes of the slices.
-ghost use Rattle.std.specs.Prelude.{◌≡◌, map, OnOk, OnErr, IfOk, IfErr, Some};
-ghost use Rattle.backup_machine.specs.declared.faults.BackupFault.TheVariants.{NotWaiting};
-ghost use Rattle.backup_machine.specs.Backups.{no_outcome, is_commit, is_open, all_commit, waits, with_outcome};
+ghost use Rattle.std.specs.Prelude.{◌≡◌, map, IfOk};
+ghost use Rattle.std.specs.List.{list_all};
+ghost use Rattle.backup_machine.specs.Backups.{no_outcome, is_commit, lacks_outcome};
 
-use crate::faults::BackupFault;
 use std::alloc::Global;
 use tcs_terms::{Decision, OutOfMemory, Payload};
 
@@ -29,14 +28,14 @@ fn is_commit(outcome: &Option<Decision>) -> bool
 
 /// Whether each slice has the outcome to commit.
 pub(crate) fn all_commit(outcomes: &[Option<Decision>]) -> bool
-    ensures { result ≡ all_commit (Some outcomes.now) }
+    ensures { result ≡ list_all is_commit outcomes.now }
 {
     outcomes.iter().all(is_commit)
 }
 
-/// Whether a slice, numbered from 1, waits for its outcome.
-pub(crate) fn waits(outcomes: &[Option<Decision>], slice: u16) -> bool
-    ensures { result ≡ waits (Some outcomes.now) slice }
+/// Whether a slice, numbered from 1, has no outcome yet.
+pub(crate) fn lacks_outcome(outcomes: &[Option<Decision>], slice: u16) -> bool
+    ensures { result ≡ lacks_outcome outcomes.now slice }
 {
     if slice == 0 {
         return false;

@@ -1,5 +1,5 @@
 //! The slices of a backup, and the payload of each.
-ghost use Rattle.std.specs.Prelude.{◌≡◌, ◌+◌, ◌≤◌, length, All, map, IfOk};
+ghost use Rattle.std.specs.Prelude.{◌≡◌, ◌+◌, ◌≤◌, [], ◌∷◌, length, All, map, IfOk};
 ghost use Rattle.tcs_terms.specs.Payloads.{IsReadPart, IsRangePart};
 ghost use Rattle.backup_machine.specs.Objects.{AreOf};
 ghost use Rattle.backup_machine.specs.Slices.{read_of, range_of, greatest, slice_payload, all_slices};
@@ -9,14 +9,14 @@ use std::alloc::Global;
 use tcs_terms::{Name, OutOfMemory, Payload, RangePart, ReadPart};
 
 /// What a slice reads of an object.
-fn read_of(object: &Kept) -> ReadPart
-    ensures read { result ≡ read_of object.now }
+fn read_of(name: &Name, version: u64) -> ReadPart
+    ensures read { result ≡ record { name = name.now; version = version } }
     ensures part { IsReadPart result }
 {
-    let _name = object.name.bytes();
+    let _name = name.bytes();
     ReadPart {
-        name: object.name.again(),
-        version: object.version,
+        name: name.again(),
+        version,
     }
 }
 
@@ -41,7 +41,7 @@ fn reads(alloc: Global, kept: &[Kept]) -> Result<Vec<ReadPart>, OutOfMemory>
 {
     let mut list = Vec::new(alloc);
     for object in kept {
-        list.push(read_of(object))?;
+        list.push(read_of(&object.name, object.version))?;
     }
     Ok(list)
 }
