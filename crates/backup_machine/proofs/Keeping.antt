@@ -1,5 +1,5 @@
 -- A value that is taken leaves a backup.
-use Rattle.std.proofs.Common.{◌≡◌, ℕ, ◌+◌, ◌<◌, ◌≤◌, Bool, true, false, not, ◌&&◌, cond, List, [], ◌∷◌, ◌++◌, length, map, refl, ap, ◌∙◌, arith, length-append}
+use Rattle.std.proofs.Common.{◌≡◌, ℕ, ◌+◌, ◌<◌, ◌≤◌, Bool, true, false, not, cond, List, [], ◌∷◌, ◌++◌, length, map, refl, ap, ◌∙◌, arith, length-append}
 use Rattle.std.specs.Prelude.{Option, Some, None, nat_lt, nat_le, nat_eq}
 use Rattle.std.specs.List.{list_all}
 use Rattle.std.proofs.lemmas.Bool.Decides.{nat_tests}
@@ -9,7 +9,7 @@ use Rattle.tcs_terms.proofs.BoolLaws.{both, left_of, right_of, not_false}
 use Rattle.backup_machine.specs.declared.objects.Kept.{Kept}
 use Rattle.backup_machine.specs.declared.objects.TheConstants.{MAX_OBJECTS}
 use Rattle.backup_machine.specs.Objects.{in_range, is_kept_version, comes_after, none_behind, AreOf}
-use Rattle.backup_machine.specs.Backups.{BackupRecord, IsBackup, with_object, with_value, value_fault}
+use Rattle.backup_machine.specs.Backups.{BackupRecord, IsBackup, with_object, with_value}
 use Rattle.backup_machine.proofs.Names.{least_before, not_both, not_itself}
 
 -- an element more that passes a test
@@ -86,5 +86,6 @@ taken_leaves b k is t = go (nat_eq k.version 0) refl
     go true h = with_none_more b k is t
     go false h = with_one_more b k is t (grind (arith, nat_tests))
 
-pub value_leaves_a_backup : (b : BackupRecord) (k : Kept) → IsBackup b → value_fault b k.name k.version ≡ None → IsBackup (with_value b k)
-value_leaves_a_backup b k is none = taken_leaves b k is (record { within = ?; after = ?; below = ?; room = ? })
+pub value_leaves_a_backup : (b : BackupRecord) (k : Kept) (kept : List Kept) → IsBackup b → in_range b.from b.upto k.name ≡ true → comes_after b.last k.name ≡ true
+    → k.version < 18446744073709551615 → (0 < k.version → length b.kept < MAX_OBJECTS) → kept ≡ with_object k b.kept → IsBackup (record b { last = Some k.name; kept = kept })
+value_leaves_a_backup b k kept is within after below room e = rw e (taken_leaves b k is (record { within = within; after = after; below = below; room = room }))

@@ -1,5 +1,5 @@
 -- What a slice reads is a payload.
-use Rattle.std.proofs.Common.{◌≡◌, ℕ, ◌+◌, ◌<◌, ◌≤◌, ◌×◌, ◌^◌, Bool, true, false, ◌&&◌, List, [], ◌∷◌, length, map, refl, ap, arith}
+use Rattle.std.proofs.Common.{◌≡◌, ℕ, ◌+◌, ◌<◌, ◌≤◌, ◌^◌, Bool, true, false, ◌&&◌, List, [], ◌∷◌, length, map, refl, ap, subst, arith}
 use Rattle.std.specs.Prelude.{max, fold, nat_lt, nat_le, All}
 use Rattle.std.specs.List.{list_all}
 use Rattle.std.proofs.lemmas.Bool.Decides.{nat_tests}
@@ -7,6 +7,7 @@ use Rattle.std.proofs.lemmas.List.{length-map}
 use Rattle.std.proofs.lemmas.List.Elements.{All-nil}
 use Rattle.tcs_terms.specs.declared.payloads.ReadPart.{ReadPart}
 use Rattle.tcs_terms.specs.declared.payloads.RangePart.{RangePart}
+use Rattle.tcs_terms.specs.declared.payloads.WritePart.{WritePart}
 use Rattle.tcs_terms.specs.Order.{name_before}
 use Rattle.tcs_terms.specs.Payloads.{IsPayload, IsReadPart, IsRangePart, IsWritePart}
 use Rattle.tcs_terms.proofs.BoolLaws.{both, left_of, right_of}
@@ -41,8 +42,8 @@ greatest_below most top (k ∷ ks) below h =
 pub greatest_fits : (kept : List Kept) → list_all (λ (k : Kept). is_kept_version k.version) kept ≡ true → greatest kept + 1 < 2 ^ 64
 greatest_fits kept h = let below : greatest kept < 18446744073709551615 = greatest_below 0 18446744073709551615 kept (omega arith) h in omega (arith, below)
 
-pub slice_is_a_payload : (from upto : List ℕ) (kept : List Kept) → AreOf from upto kept → length kept ≤ 16 → All IsReadPart (map read_of kept) → All IsRangePart (range_of from upto ∷ []) → IsPayload (slice_payload from upto kept)
-slice_is_a_payload from upto kept are few read_parts range_parts = record {
+is_a_payload : (from upto : List ℕ) (kept : List Kept) → AreOf from upto kept → length kept ≤ 16 → All IsReadPart (map read_of kept) → All IsRangePart (range_of from upto ∷ []) → IsPayload (slice_payload from upto kept)
+is_a_payload from upto kept are few read_parts range_parts = record {
   some = omega arith;
   few_reads = let h = length-map kept read_of in omega (arith, h, few);
   few_ranges = omega arith;
@@ -60,3 +61,9 @@ slice_is_a_payload from upto kept are few read_parts range_parts = record {
   range_parts = range_parts;
   write_parts = All-nil IsWritePart;
 }
+
+pub slice_is_a_payload : (from upto : List ℕ) (kept : List Kept) (reads : List ReadPart) (ranges : List RangePart) (writes : List WritePart) (version : ℕ) → AreOf from upto kept → length kept ≤ 16
+    → reads ≡ map read_of kept → ranges ≡ range_of from upto ∷ [] → writes ≡ [] → version ≡ greatest kept + 1 → All IsReadPart reads → All IsRangePart ranges
+    → IsPayload (record { reads = reads; ranges = ranges; writes = writes; version = version })
+slice_is_a_payload from upto kept reads ranges writes version are few r q w v read_parts range_parts =
+    rw (r, q, w, v) (is_a_payload from upto kept are few (subst (All IsReadPart) r read_parts) (subst (All IsRangePart) q range_parts))
