@@ -1,5 +1,5 @@
 -- Objects of a range that are cut in two are objects of two ranges, which meet at the first name of the second part.
-use Rattle.std.proofs.Common.{◌≡◌, ℕ, suc, ◌+◌, ◌<◌, ◌≤◌, Bool, true, false, not, ◌&&◌, List, [], ◌∷◌, ◌++◌, length, map, take, drop, refl, sym, ap, subst, ◌∙◌, arith, length-drop}
+use Rattle.std.proofs.Common.{◌≡◌, ℕ, suc, ◌+◌, ◌<◌, ◌≤◌, Bool, true, false, not, ◌&&◌, List, [], ◌∷◌, ◌++◌, length, map, take, drop, get_or, refl, sym, ap, subst, ◌∙◌, arith, length-drop}
 use Rattle.std.specs.List.{list_all}
 use Rattle.std.proofs.lemmas.List.{take-append-drop, length-take-le}
 use Rattle.tcs_terms.specs.Order.{name_before, names_ascend}
@@ -107,3 +107,14 @@ pub cut_in_two : (from upto : List ℕ) (width : ℕ) (kept : List Kept) → 1 �
 cut_in_two from upto width kept some more are =
     cut_parts from upto (take width kept) (drop width kept) (let h = length-take-le width kept (omega arith) in omega (arith, h, some))
     (let h = length-drop width kept in omega (arith, h, more)) (subst (λ (ks : List Kept). AreOf from upto ks) (sym (take-append-drop width kept)) are)
+
+-- the name of the first one
+pub named_first : (kept : List Kept) (k : Kept) → 1 ≤ length kept → (get_or kept 0 k).name ≡ first_name kept
+named_first [] k some = absurd (omega arith)
+named_first (x ∷ xs) k some = refl
+
+-- the same, of the parts as the code has them
+pub cut_here : (from upto : List ℕ) (width : ℕ) (kept front back : List Kept) (k : Kept) → 1 ≤ width → width < length kept → front ≡ take width kept → back ≡ drop width kept → AreOf from upto kept
+    → AreOf from (get_or back 0 k).name front × AreOf (get_or back 0 k).name upto back
+cut_here from upto width kept front back k some more f b are =
+    rw (f, b, named_first (drop width kept) k (let h = length-drop width kept in omega (arith, h, more))) (cut_in_two from upto width kept some more are)
