@@ -86,6 +86,6 @@ taken_leaves b k is t = go (nat_eq k.version 0) refl
     go true h = with_none_more b k is t
     go false h = with_one_more b k is t (grind (arith, nat_tests))
 
-pub value_leaves_a_backup : (b : BackupRecord) (k : Kept) (kept : List Kept) → IsBackup b → in_range b.from b.upto k.name ≡ true → comes_after b.last k.name ≡ true
-    → k.version < 18446744073709551615 → (0 < k.version → length b.kept < MAX_OBJECTS) → kept ≡ with_object k b.kept → IsBackup (record b { last = Some k.name; kept = kept })
-value_leaves_a_backup b k kept is within after below room e = rw e (taken_leaves b k is (record { within = within; after = after; below = below; room = room }))
+pub value_leaves_a_backup : (b : BackupRecord) (k : Kept) (last : List ℕ) (kept : List Kept) → IsBackup b → in_range b.from b.upto k.name ≡ true → comes_after b.last k.name ≡ true
+    → k.version < 18446744073709551615 → (0 < k.version → length b.kept < MAX_OBJECTS) → last ≡ k.name → kept ≡ with_object k b.kept → IsBackup (record b { last = Some last; kept = kept })
+value_leaves_a_backup b k last kept is within after below room l e = rw (l, e) (taken_leaves b k is (record { within = within; after = after; below = below; room = room }))

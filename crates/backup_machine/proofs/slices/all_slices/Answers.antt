@@ -19,8 +19,9 @@ one_more : (total width : ℕ) (from upto : List ℕ) (kept front back : List Ke
     → before ++ slices (suc (total - length before)) width from upto kept ≡ all → after ++ slices (suc (total - length after)) width (get_or back 0 k).name upto back ≡ all
 one_more total width from upto kept front back k all before after p more fewer f b is grown so_far =
     let n : suc (total - length after) ≡ total - length before = let h = length-append before (p ∷ []) in let g = ap length grown in omega (arith, h, g, more, fewer) in
-    rw (n, grown) (append_assoc before (p ∷ []) _ ∙ ap (λ (x : Accesses). before ++ x ∷ slices (total - length before) width (get_or back 0 k).name upto back) is
-    ∙ ap (λ (ps : List Accesses). before ++ ps) (sym (slices_go_on (total - length before) width from upto kept front back k more f b)) ∙ so_far)
+    let rest = λ (most : ℕ). slices most width (get_or back 0 k).name upto back in
+    ap (λ (most : ℕ). after ++ rest most) n ∙ ap (λ (ps : List Accesses). ps ++ rest (total - length before)) grown ∙ append_assoc before (p ∷ []) (rest (total - length before))
+    ∙ ap (λ (x : Accesses). before ++ x ∷ rest (total - length before)) is ∙ ap (λ (ps : List Accesses). before ++ ps) (sym (slices_go_on (total - length before) width from upto kept front back k more f b)) ∙ so_far
 
 pub slice_payload-requires-clause-are : goal.slice_payload-requires-clause-are
 slice_payload-requires-clause-are c =

@@ -14,4 +14,9 @@ invariant_of-self-2 c =
       kept = c.self.inside.kept.items;
       waiting = c.self.inside.waiting;
       outcomes = c.self.inside.outcomes.items;
-    }) (record { name = c.args.name; version = c.args.version; value = c.args.value }) c.keep.new.kept.items c.self.invariant (search rules) (search rules) (omega arith) ? ?
+    }) (record { name = c.args.name; version = c.args.version; value = c.args.value }) c.again-last.result c.keep.new.kept.items c.self.invariant (search rules) (search rules) (omega arith)
+    (λ some. elim c.else-version-gt0.branch [
+      else-version-gt0-via-then-version-gt0+else-len-ge-MAX_OBJECTS w ↦ omega arith
+      | else-version-gt0-via-else-version-gt0 w ↦ absurd (omega arith)
+    ])
+    c.again-last.ensures c.in_ok-keep.ensures.ok
