@@ -1,5 +1,5 @@
 -- Objects of a range that are cut in two are objects of two ranges, which meet at the first name of the second part.
-use Rattle.std.proofs.Common.{◌≡◌, ℕ, suc, ◌+◌, ◌<◌, ◌≤◌, Bool, true, false, not, ◌&&◌, List, [], ◌∷◌, ◌++◌, length, map, take, drop, get_or, refl, sym, ap, subst, ◌∙◌, arith, length-drop}
+use Rattle.std.proofs.Common.{◌≡◌, ℕ, ◌<◌, ◌≤◌, Bool, true, not, List, [], ◌∷◌, ◌++◌, length, map, take, drop, get_or, refl, sym, ap, subst, arith, length-drop}
 use Rattle.std.specs.List.{list_all}
 use Rattle.std.proofs.lemmas.List.{take-append-drop, length-take-le}
 use Rattle.tcs_terms.specs.Order.{name_before, names_ascend}
@@ -80,21 +80,24 @@ cut_at from upto x xs y ys are = parts (ascend_apart (x ∷ xs) y ys are.ascend)
     back_within = back_of (λ (k : Kept). in_range from upto k.name) (x ∷ xs) (y ∷ ys) are.within
 
     parts : Cut (x ∷ xs) y ys → AreOf from y.name (x ∷ xs) × AreOf y.name upto (y ∷ ys)
-    parts c = (record {
-      span = least_before x.name from y.name
-          (not_false (name_before x.name from) (left_of (not (name_before x.name from)) (name_before x.name upto) (left_of (in_range from upto x.name) (list_all (λ (k : Kept). in_range from upto k.name) xs) front_within)))
-          (left_of (name_before x.name y.name) (list_all (λ (k : Kept). name_before k.name y.name) xs) c.before);
-      ascend = c.front;
-      within = all_of (λ (k : Kept). in_range from upto k.name) (λ (k : Kept). name_before k.name y.name) (λ (k : Kept). in_range from y.name k.name)
-          (λ (k : Kept) p q. both (not (name_before k.name from)) (name_before k.name y.name) (left_of (not (name_before k.name from)) (name_before k.name upto) p) q) (x ∷ xs) front_within c.before;
-      versions = front_of (λ (k : Kept). is_kept_version k.version) (x ∷ xs) (y ∷ ys) are.versions;
-    }, record {
-      span = right_of (not (name_before y.name from)) (name_before y.name upto) (left_of (in_range from upto y.name) (list_all (λ (k : Kept). in_range from upto k.name) ys) back_within);
-      ascend = c.back;
-      within = all_of (λ (k : Kept). in_range from upto k.name) (λ (k : Kept). not (name_before k.name y.name)) (λ (k : Kept). in_range y.name upto k.name)
-          (λ (k : Kept) p q. both (not (name_before k.name y.name)) (name_before k.name upto) q (right_of (not (name_before k.name from)) (name_before k.name upto) p)) (y ∷ ys) back_within (none_before_first y ys c.back);
-      versions = back_of (λ (k : Kept). is_kept_version k.version) (x ∷ xs) (y ∷ ys) are.versions;
-    })
+    parts c = (
+      record {
+        span = least_before x.name from y.name
+            (not_false (name_before x.name from) (left_of (not (name_before x.name from)) (name_before x.name upto) (left_of (in_range from upto x.name) (list_all (λ (k : Kept). in_range from upto k.name) xs) front_within)))
+            (left_of (name_before x.name y.name) (list_all (λ (k : Kept). name_before k.name y.name) xs) c.before);
+        ascend = c.front;
+        within = all_of (λ (k : Kept). in_range from upto k.name) (λ (k : Kept). name_before k.name y.name) (λ (k : Kept). in_range from y.name k.name)
+            (λ (k : Kept) p q. both (not (name_before k.name from)) (name_before k.name y.name) (left_of (not (name_before k.name from)) (name_before k.name upto) p) q) (x ∷ xs) front_within c.before;
+        versions = front_of (λ (k : Kept). is_kept_version k.version) (x ∷ xs) (y ∷ ys) are.versions;
+      },
+      record {
+        span = right_of (not (name_before y.name from)) (name_before y.name upto) (left_of (in_range from upto y.name) (list_all (λ (k : Kept). in_range from upto k.name) ys) back_within);
+        ascend = c.back;
+        within = all_of (λ (k : Kept). in_range from upto k.name) (λ (k : Kept). not (name_before k.name y.name)) (λ (k : Kept). in_range y.name upto k.name)
+            (λ (k : Kept) p q. both (not (name_before k.name y.name)) (name_before k.name upto) q (right_of (not (name_before k.name from)) (name_before k.name upto) p)) (y ∷ ys) back_within (none_before_first y ys c.back);
+        versions = back_of (λ (k : Kept). is_kept_version k.version) (x ∷ xs) (y ∷ ys) are.versions;
+      },
+    )
 
 cut_parts : (from upto : List ℕ) (xs ys : List Kept) → 1 ≤ length xs → 1 ≤ length ys → AreOf from upto (xs ++ ys) → AreOf from (first_name ys) xs × AreOf (first_name ys) upto ys
 cut_parts from upto [] ys some more are = absurd (omega arith)

@@ -1,6 +1,6 @@
 -- A value that is taken leaves a backup.
-use Rattle.std.proofs.Common.{◌≡◌, ℕ, ◌+◌, ◌<◌, ◌≤◌, Bool, true, false, not, ◌&&◌, cond, List, [], ◌∷◌, ◌++◌, length, map, refl, ap, ◌∙◌, arith, length-append}
-use Rattle.std.specs.Prelude.{Option, Some, None, nat_lt, nat_le, nat_eq}
+use Rattle.std.proofs.Common.{◌≡◌, ℕ, ◌<◌, Bool, true, false, not, ◌&&◌, cond, List, [], ◌∷◌, ◌++◌, length, map, refl, ap, ◌∙◌, arith, length-append}
+use Rattle.std.specs.Prelude.{Option, Some, None, nat_eq}
 use Rattle.std.specs.List.{list_all}
 use Rattle.std.proofs.lemmas.Bool.Decides.{nat_tests}
 use Rattle.std.proofs.lemmas.List.Folds.{list_all-append}
@@ -8,7 +8,7 @@ use Rattle.tcs_terms.specs.Order.{name_before, names_ascend}
 use Rattle.tcs_terms.proofs.BoolLaws.{both, left_of, right_of, not_false}
 use Rattle.backup_machine.specs.declared.objects.Kept.{Kept}
 use Rattle.backup_machine.specs.declared.objects.TheConstants.{MAX_OBJECTS}
-use Rattle.backup_machine.specs.Objects.{in_range, is_kept_version, comes_after, none_behind, AreOf}
+use Rattle.backup_machine.specs.Objects.{in_range, is_kept_version, comes_after, none_behind}
 use Rattle.backup_machine.specs.Backups.{BackupRecord, IsBackup, with_object, with_value}
 use Rattle.backup_machine.proofs.Names.{least_before, not_both, not_itself}
 

@@ -107,7 +107,14 @@ impl Backup {
             return Err(BackupFault::TooMany);
         }
         let last = name.again();
-        keep(&mut self.kept, Kept { name, version, value })?;
+        keep(
+            &mut self.kept,
+            Kept {
+                name,
+                version,
+                value,
+            },
+        )?;
         self.last = Some(last);
         Ok(())
     }
