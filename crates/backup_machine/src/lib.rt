@@ -12,4 +12,4 @@ mod tests;
 
 pub use backup::Backup;
 pub use faults::BackupFault;
-pub use objects::{Kept, MAX_OBJECTS};
+pub use objects::{Kept, MAX_OBJECTS, comes_after, in_range};

@@ -17,14 +17,14 @@ pub struct Kept {
 }
 
 /// Whether a name is one of the range, which its upper end is not.
-pub(crate) fn in_range(from: &Name, upto: &Name, name: &Name) -> bool
+pub fn in_range(from: &Name, upto: &Name, name: &Name) -> bool
     ensures { result ≡ in_range from.now upto.now name.now }
 {
     !name_before(name.bytes(), from.bytes()) && name_before(name.bytes(), upto.bytes())
 }
 
 /// Whether a name stands behind the last one, where there is one.
-pub(crate) fn comes_after(last: &Option<Name>, name: &Name) -> bool
+pub fn comes_after(last: &Option<Name>, name: &Name) -> bool
     ensures { result ≡ comes_after last.now name.now }
 {
     match last {
