@@ -16,46 +16,45 @@ fn of_two(alloc: Global, width: u8) -> Result<Backup, Fail> {
 }
 
 #[test]
-fn a_backup_in_one_slice(rt: HostRuntime) -> Result<(), Fail> {
+fn a_slice_reads_its_objects_and_its_range(rt: HostRuntime) -> Result<(), Fail> {
     let mut backup = of_two(rt.alloc(), 2)?;
     let payloads = backup.payloads()?;
     assert_eq!(rt; payloads.len(), 1);
-    assert_eq!(rt; (payloads[0].version(), payloads[0].writes().len()), (2, 0));
-    for (read, bytes) in payloads[0]
+    let payload = &payloads[0];
+    assert_eq!(rt; (payload.version(), payload.writes().len()), (2, 0));
+    assert_eq!(rt; (payload.reads().len(), payload.ranges().len()), (2, 1));
+    for (read, bytes) in payload
         .reads()
         .iter()
         .zip([b"a".as_slice(), b"b".as_slice()])
     {
         assert_eq!(rt; (read.name.bytes(), read.version), (bytes, 1));
     }
-    for range in payloads[0].ranges() {
-        assert_eq!(rt;
-            (range.from.bytes(), range.upto.bytes()),
-            (b"a".as_slice(), b"c".as_slice())
-        );
-        assert_eq!(rt; range.version, 0);
+    for range in payload.ranges() {
+        assert_eq!(rt; range.from.bytes(), b"a".as_slice());
+        assert_eq!(rt; (range.upto.bytes(), range.version), (b"c".as_slice(), 0));
     }
-    assert_eq!(rt;
-        (payloads[0].reads().len(), payloads[0].ranges().len()),
-        (2, 1)
-    );
-    assert_eq!(rt; backup.on_outcome(1, Decision::Commit), Ok(()));
+    Ok(())
+}
+
+#[test]
+fn what_commits_is_the_file(rt: HostRuntime) -> Result<(), Fail> {
+    let mut backup = of_two(rt.alloc(), 2)?;
+    let _payloads = backup.payloads()?;
+    assert_eq!(rt; backup.file().is_none(), true);
+    backup.on_outcome(1, Decision::Commit)?;
     assert_eq!(rt;
         backup.on_outcome(1, Decision::Commit),
         Err(BackupFault::NotWaiting)
     );
-    match backup.file() {
-        None => assert_eq!(rt; false, true),
-        Some(kept) => {
-            for (object, (bytes, value)) in kept
-                .iter()
-                .zip([(b"a".as_slice(), 5), (b"b".as_slice(), 6)])
-            {
-                assert_eq!(rt; (object.name.bytes(), object.version), (bytes, 1));
-                assert_eq!(rt; object.value.bytes(), [value].as_slice());
-            }
-            assert_eq!(rt; kept.len(), 2);
-        }
+    let kept = backup.file().unwrap_or(&[]);
+    assert_eq!(rt; kept.len(), 2);
+    for (object, (bytes, value)) in kept.iter().zip([
+        (b"a".as_slice(), b"\x05".as_slice()),
+        (b"b".as_slice(), b"\x06".as_slice()),
+    ]) {
+        assert_eq!(rt; (object.name.bytes(), object.version), (bytes, 1));
+        assert_eq!(rt; object.value.bytes(), value);
     }
     Ok(())
 }
