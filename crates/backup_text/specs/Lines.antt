@@ -31,12 +31,16 @@ abbrev pub place_text : Option TxId → List ℕ
 place_text None = codes "-"
 place_text (Some txn) = txn_text txn
 
+-- the name and the version of an object
+abbrev pub seen_text : Kept → List ℕ
+seen_text object = object.name ++ codes " " ++ decimal object.version
+
 -- its text, without its line feed
 abbrev pub line_text : Line → List ℕ
 line_text (HeadLine from upto) = codes "backup 1 " ++ from ++ codes " " ++ upto
 line_text (CallLine event) = codes "did " ++ event
 line_text (PlaceLine txn) = codes "cut " ++ place_text txn
-line_text (ObjectLine object) = codes "obj " ++ object.name ++ codes " " ++ decimal object.version ++ codes " " ++ value_text object.value
+line_text (ObjectLine object) = codes "obj " ++ seen_text object ++ codes " " ++ value_text object.value
 line_text (EndLine count) = codes "end " ++ decimal count
 
 -- as it is printed

@@ -6,6 +6,8 @@ pub mod limits;
 mod printers;
 mod reader;
 mod stages;
+#[cfg(test)]
+mod tests;
 mod words;
 
 pub use items::{BackupItem, BackupLineFault};

@@ -2,7 +2,7 @@
 //! it held.
 ghost use Rattle.std.specs.Prelude.{◌≡◌, ◌++◌, OnOk, OnErr};
 ghost use Rattle.tcs_terms.specs.Appends.{Begins};
-ghost use Rattle.backup_text.specs.Lines.{HeadLine, CallLine, PlaceLine, ObjectLine, EndLine, place_text, printed};
+ghost use Rattle.backup_text.specs.Lines.{HeadLine, CallLine, PlaceLine, ObjectLine, EndLine, place_text, seen_text, printed};
 
 use backup_machine::Kept;
 use tcs_terms::{Name, OutOfMemory, TxId};
@@ -50,15 +50,23 @@ pub fn print_place(place: Option<TxId>, out: &mut Vec<u8>) -> Result<(), OutOfMe
     put_byte(out, b'\n')
 }
 
+/// The name of an object, and its version.
+fn put_seen(object: &Kept, out: &mut Vec<u8>) -> Result<(), OutOfMemory>
+    ensures ok { OnOk result (out.new.items ≡ out.old.items ++ seen_text object.now) }
+    ensures err { OnErr result (Begins out.old.items out.new.items) }
+{
+    put(out, object.name.bytes())?;
+    put_byte(out, b' ')?;
+    put_number(out, object.version)
+}
+
 /// The line of an object: its name, its version, and its value in hex.
 pub fn print_object(object: &Kept, out: &mut Vec<u8>) -> Result<(), OutOfMemory>
     ensures ok { OnOk result (out.new.items ≡ out.old.items ++ printed (ObjectLine object.now)) }
     ensures err { OnErr result (Begins out.old.items out.new.items) }
 {
     put(out, b"obj ")?;
-    put(out, object.name.bytes())?;
-    put_byte(out, b' ')?;
-    put_number(out, object.version)?;
+    put_seen(object, out)?;
     put_byte(out, b' ')?;
     put_value(out, object.value.bytes())?;
     put_byte(out, b'\n')

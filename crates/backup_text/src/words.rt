@@ -126,7 +126,11 @@ pub(crate) fn object_in(alloc: Global, text: &[u8]) -> Result<Option<Kept>, OutO
         return Ok(None);
     };
     if version >= 1 {
-        Ok(Some(Kept { name, version, value }))
+        Ok(Some(Kept {
+            name,
+            version,
+            value,
+        }))
     } else {
         Ok(None)
     }
