@@ -47,14 +47,14 @@ fn what_commits_is_the_file(rt: HostRuntime) -> Result<(), Fail> {
         backup.on_outcome(1, Decision::Commit),
         Err(BackupFault::NotWaiting)
     );
-    let kept = backup.file().unwrap_or(&[]);
+    let kept = backup.file().ok_or(BackupFault::NotWaiting)?;
     assert_eq!(rt; kept.len(), 2);
-    for (object, (bytes, value)) in kept.iter().zip([
-        (b"a".as_slice(), b"\x05".as_slice()),
-        (b"b".as_slice(), b"\x06".as_slice()),
-    ]) {
+    for (object, (bytes, value)) in kept
+        .iter()
+        .zip([(b"a".as_slice(), 5), (b"b".as_slice(), 6)])
+    {
         assert_eq!(rt; (object.name.bytes(), object.version), (bytes, 1));
-        assert_eq!(rt; object.value.bytes(), value);
+        assert_eq!(rt; object.value.bytes().first().copied(), Some(value));
     }
     Ok(())
 }
