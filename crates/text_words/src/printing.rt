@@ -1,80 +1,93 @@
 //! The text of a payload.
-ghost use Rattle.std.specs.Prelude.{◌≡◌, ◌++◌, decimal, IfOk, OnOk, OnErr};
+ghost use Rattle.std.specs.Prelude.{◌≡◌, ◌++◌, codes, OnOk, OnErr};
 ghost use Rattle.std.specs.List.{flat_map};
+ghost use Rattle.tcs_terms.specs.Appends.{Begins};
 ghost use Rattle.text_words.specs.PayloadText.{read_text, range_text, write_text, payload_text};
 
 use crate::hex_words::put_value;
-use crate::texts::put_number;
-use std::alloc::Global;
+use crate::texts::{put, put_byte, put_number};
 use tcs_terms::{OutOfMemory, Payload, RangePart, ReadPart, WritePart};
 
-fn push_read(text: &mut Vec<u8>, read: &ReadPart) -> Result<(), OutOfMemory>
-    ensures { OnOk result (text.new.items ≡ text.old.items ++ read_text read.now) }
+fn put_read(out: &mut Vec<u8>, read: &ReadPart) -> Result<(), OutOfMemory>
+    ensures ok { OnOk result (out.new.items ≡ out.old.items ++ read_text read.now) }
+    ensures err { OnErr result (Begins out.old.items out.new.items) }
 {
-    text.extend_from_slice(b" r ")?;
-    text.extend_from_slice(read.name.bytes())?;
-    text.push(b' ')?;
-    put_number(text, read.version)
+    put(out, b" r ")?;
+    put(out, read.name.bytes())?;
+    put_byte(out, b' ')?;
+    put_number(out, read.version)
 }
 
-fn push_range(text: &mut Vec<u8>, range: &RangePart) -> Result<(), OutOfMemory>
-    ensures { OnOk result (text.new.items ≡ text.old.items ++ range_text range.now) }
+fn put_ends(out: &mut Vec<u8>, range: &RangePart) -> Result<(), OutOfMemory>
+    ensures ok { OnOk result (out.new.items ≡ out.old.items ++ (range.now.from ++ codes " " ++ range.now.upto)) }
+    ensures err { OnErr result (Begins out.old.items out.new.items) }
 {
-    text.extend_from_slice(b" q ")?;
-    text.extend_from_slice(range.from.bytes())?;
-    text.push(b' ')?;
-    text.extend_from_slice(range.upto.bytes())?;
-    text.push(b' ')?;
-    put_number(text, range.version)
+    put(out, range.from.bytes())?;
+    put_byte(out, b' ')?;
+    put(out, range.upto.bytes())
 }
 
-fn push_write(text: &mut Vec<u8>, write: &WritePart) -> Result<(), OutOfMemory>
-    ensures { OnOk result (text.new.items ≡ text.old.items ++ write_text write.now) }
+fn put_range(out: &mut Vec<u8>, range: &RangePart) -> Result<(), OutOfMemory>
+    ensures ok { OnOk result (out.new.items ≡ out.old.items ++ range_text range.now) }
+    ensures err { OnErr result (Begins out.old.items out.new.items) }
 {
-    text.extend_from_slice(b" w ")?;
-    text.extend_from_slice(write.name.bytes())?;
-    text.push(b' ')?;
-    put_value(text, write.value.bytes())
+    put(out, b" q ")?;
+    put_ends(out, range)?;
+    put_byte(out, b' ')?;
+    put_number(out, range.version)
 }
 
-fn push_reads(text: &mut Vec<u8>, reads: &[ReadPart]) -> Result<(), OutOfMemory>
-    ensures { OnOk result (text.new.items ≡ text.old.items ++ flat_map read_text reads.now) }
+fn put_write(out: &mut Vec<u8>, write: &WritePart) -> Result<(), OutOfMemory>
+    ensures ok { OnOk result (out.new.items ≡ out.old.items ++ write_text write.now) }
+    ensures err { OnErr result (Begins out.old.items out.new.items) }
+{
+    put(out, b" w ")?;
+    put(out, write.name.bytes())?;
+    put_byte(out, b' ')?;
+    put_value(out, write.value.bytes())
+}
+
+fn put_reads(out: &mut Vec<u8>, reads: &[ReadPart]) -> Result<(), OutOfMemory>
+    ensures ok { OnOk result (out.new.items ≡ out.old.items ++ flat_map read_text reads.now) }
+    ensures err { OnErr result (Begins out.old.items out.new.items) }
 {
     for read in reads {
-        push_read(text, read)?;
+        put_read(out, read)?;
     }
     Ok(())
 }
 
-fn push_ranges(text: &mut Vec<u8>, ranges: &[RangePart]) -> Result<(), OutOfMemory>
-    ensures { OnOk result (text.new.items ≡ text.old.items ++ flat_map range_text ranges.now) }
+fn put_ranges(out: &mut Vec<u8>, ranges: &[RangePart]) -> Result<(), OutOfMemory>
+    ensures ok { OnOk result (out.new.items ≡ out.old.items ++ flat_map range_text ranges.now) }
+    ensures err { OnErr result (Begins out.old.items out.new.items) }
 {
     for range in ranges {
-        push_range(text, range)?;
+        put_range(out, range)?;
     }
     Ok(())
 }
 
-fn push_writes(text: &mut Vec<u8>, writes: &[WritePart]) -> Result<(), OutOfMemory>
-    ensures { OnOk result (text.new.items ≡ text.old.items ++ flat_map write_text writes.now) }
+fn put_writes(out: &mut Vec<u8>, writes: &[WritePart]) -> Result<(), OutOfMemory>
+    ensures ok { OnOk result (out.new.items ≡ out.old.items ++ flat_map write_text writes.now) }
+    ensures err { OnErr result (Begins out.old.items out.new.items) }
 {
     for write in writes {
-        push_write(text, write)?;
+        put_write(out, write)?;
     }
     Ok(())
 }
 
-/// The words of a payload, one space between them.
+/// Appends the words of a payload, one space between them. After want of memory the buffer begins with what it held.
 #[tactic(auto, unfolding(crate::specs::PayloadText::payload_text))]
-fn text_of(alloc: Global, payload: &Payload) -> Result<Vec<u8>, OutOfMemory>
-    ensures { IfOk result (λ text. text.items ≡ payload_text payload.now) }
+fn put_payload(out: &mut Vec<u8>, payload: &Payload) -> Result<(), OutOfMemory>
+    ensures ok { OnOk result (out.new.items ≡ out.old.items ++ payload_text payload.now) }
+    ensures err { OnErr result (Begins out.old.items out.new.items) }
 {
-    let mut text = Vec::from_slice(alloc, b"v ")?;
-    put_number(&mut text, payload.version())?;
-    push_reads(&mut text, payload.reads())?;
-    push_ranges(&mut text, payload.ranges())?;
-    push_writes(&mut text, payload.writes())?;
-    Ok(text)
+    put(out, b"v ")?;
+    put_number(out, payload.version())?;
+    put_reads(out, payload.reads())?;
+    put_ranges(out, payload.ranges())?;
+    put_writes(out, payload.writes())
 }
 
 /// Appends the one text of a payload: `v VERSION`, then `r NAME VERSION` for each read, `q FROM UPTO VERSION` for each
@@ -83,7 +96,10 @@ pub fn print_payload(payload: &Payload, out: &mut Vec<u8>) -> Result<(), OutOfMe
     ensures ok { OnOk result (out.new.items ≡ out.old.items ++ payload_text payload.now) }
     ensures err { OnErr result (out.new.items ≡ out.old.items) }
 {
-    let text = text_of(*out.allocator(), payload)?;
-    out.extend_from_slice(&text)?;
-    Ok(())
+    let before = out.len();
+    let answer = put_payload(out, payload);
+    if answer.is_err() {
+        out.truncate(before);
+    }
+    answer
 }

@@ -45,21 +45,27 @@ pub fn put(out: &mut Vec<u8>, text: &[u8]) -> Result<(), OutOfMemory>
     Ok(out.extend_from_slice(text)?)
 }
 
-/// Appends a byte. After want of memory the buffer begins with what it held.
+/// Appends a byte. Where memory runs out nothing is appended.
 #[tactic(auto, using(tcs_terms::proofs::Appending::begins_same))]
 pub fn put_byte(out: &mut Vec<u8>, byte: u8) -> Result<(), OutOfMemory>
     ensures ok { OnOk result (out.new.items ≡ out.old.items ++ byte ∷ []) }
+    ensures same { OnErr result (out.new.items ≡ out.old.items) }
     ensures err { OnErr result (Begins out.old.items out.new.items) }
 {
     Ok(out.push(byte)?)
 }
 
 /// Appends a number in decimal. Where memory runs out nothing is appended.
+#[tactic(auto, using(std::proofs::lemmas::Fmt::decimal_digit))]
 pub fn put_number(out: &mut Vec<u8>, number: u64) -> Result<(), OutOfMemory>
     ensures ok { OnOk result (out.new.items ≡ out.old.items ++ decimal number) }
     ensures same { OnErr result (out.new.items ≡ out.old.items) }
     ensures err { OnErr result (Begins out.old.items out.new.items) }
 {
+    // Most numbers of a trace name a node or a shard.
+    if number < 10 {
+        return put_byte(out, b'0' + number as u8);
+    }
     let mut digits = Buffer::new();
     put(out, digits.format(number).as_bytes())
 }
