@@ -4,11 +4,13 @@ ghost use Rattle.std.specs.List.{flat_map};
 ghost use Rattle.hex.specs.Hex.{encode_lower};
 ghost use Rattle.tcs_terms.specs.declared.limits.TheConstants.{MAX_KIND};
 ghost use Rattle.tcs_terms.specs.Appends.{Begins};
+ghost use Rattle.tcs_terms.specs.declared.inputs.Note.TheVariants.{ReadValue};
+ghost use Rattle.text_words.specs.PayloadText.{value_text};
 ghost use Rattle.trace_text.specs.Texts.{result_text, note_text, kind_text};
 ghost use Rattle.trace_text.specs.Lines.{HeadLine, EventLine, NoteLine, MessageLine, OrderLine, EndLine, printed};
 
 use crate::printing::{put_decision, put_field, put_handled, put_order};
-use tcs_terms::{Kind, NodeId, Note, OutOfMemory, Result1, Setup, TxId};
+use tcs_terms::{Kind, Name, NodeId, Note, OutOfMemory, Result1, Setup, TxId, Value};
 use text_words::{print_payload, put, put_byte, put_hex, put_number, put_txn, put_value};
 
 /// The first line: the version, the rule and the number of shards.
@@ -36,6 +38,31 @@ pub fn print_result(result1: &Result1, out: &mut Vec<u8>) -> Result<(), OutOfMem
     }
 }
 
+/// A version, a space and the value of that version.
+fn put_versioned(version: u64, value: &Value, out: &mut Vec<u8>) -> Result<(), OutOfMemory>
+    ensures ok { OnOk result (out.new.items ≡ out.old.items ++ (decimal version ++ codes " " ++ value_text value.now)) }
+    ensures err { OnErr result (Begins out.old.items out.new.items) }
+{
+    put_number(out, version)?;
+    put_byte(out, b' ')?;
+    put_value(out, value.bytes())
+}
+
+fn put_read_value(
+    name: &Name,
+    version: u64,
+    value: &Value,
+    out: &mut Vec<u8>,
+) -> Result<(), OutOfMemory>
+    ensures ok { OnOk result (out.new.items ≡ out.old.items ++ note_text (ReadValue name.now version value.now)) }
+    ensures err { OnErr result (Begins out.old.items out.new.items) }
+{
+    put(out, b"read ")?;
+    put(out, name.bytes())?;
+    put_byte(out, b' ')?;
+    put_versioned(version, value, out)
+}
+
 fn put_note(note: &Note, out: &mut Vec<u8>) -> Result<(), OutOfMemory>
     ensures ok { OnOk result (out.new.items ≡ out.old.items ++ note_text note.now) }
     ensures err { OnErr result (Begins out.old.items out.new.items) }
@@ -55,14 +82,7 @@ fn put_note(note: &Note, out: &mut Vec<u8>) -> Result<(), OutOfMemory>
             name,
             version,
             value,
-        } => {
-            put(out, b"read ")?;
-            put(out, name.bytes())?;
-            put_byte(out, b' ')?;
-            put_number(out, *version)?;
-            put_byte(out, b' ')?;
-            put_value(out, value.bytes())
-        }
+        } => put_read_value(name, *version, value, out),
         Note::Decide { txn, decision } => {
             put(out, b"decide ")?;
             put_txn(out, *txn)?;
