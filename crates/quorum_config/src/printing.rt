@@ -7,10 +7,24 @@ use quorum_protocol::{Accepted, Message, Outcome, Say, Stored};
 use tcs_terms::{Config, NodeId, OutOfMemory};
 use text_words::{put, put_number};
 
-/// A space and a number.
+/// The digit of a number of one digit.
+fn digit_of(number: u64) -> u8
+    requires { number < 10 }
+    ensures { result ≡ 48 + number }
+{
+    b'0' + number as u8
+}
+
+/// A space and a number. Most numbers of a run have one digit or two, and need no buffer of their own.
 fn put_field(out: &mut Vec<u8>, number: u64) -> Result<(), OutOfMemory>
     ensures { OnOk result (out.new.items ≡ out.old.items ++ spaced_number number) }
 {
+    if number < 10 {
+        return put(out, &[b' ', digit_of(number)]);
+    }
+    if number < 100 {
+        return put(out, &[b' ', digit_of(number / 10), digit_of(number % 10)]);
+    }
     put(out, b" ")?;
     put_number(out, number)
 }
