@@ -1,4 +1,5 @@
 pub mod NumberLists
+pub mod Digits
 pub mod MessageLines
 pub mod Steps
 pub mod RunTexts

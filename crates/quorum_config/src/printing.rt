@@ -1,5 +1,5 @@
 //! The lines of a run, each appended to a buffer.
-ghost use Rattle.std.specs.Prelude.{◌≡◌, ◌+◌, ◌<◌, ◌^◌, ◌++◌, ◌∷◌, [], codes, decimal, length, OnOk};
+ghost use Rattle.std.specs.Prelude.{◌≡◌, ◌≤◌, ◌+◌, ◌<◌, ◌^◌, ◌++◌, ◌∷◌, [], codes, decimal, length, OnOk};
 ghost use Rattle.schedule_text.specs.Text.{spaced_number, numbers_text, with_feed};
 ghost use Rattle.quorum_config.specs.Texts.{outcome_text, config_words, say_text, pair_words, rest_words, result_line, stored_line, about_words, ends_words, message_line, message_lines, stored_text, head_text, end_text};
 
@@ -7,10 +7,38 @@ use quorum_protocol::{Accepted, Message, Outcome, Say, Stored};
 use tcs_terms::{Config, NodeId, OutOfMemory};
 use text_words::{put, put_number};
 
-/// A space and a number.
+/// A space and the digit of a number of one digit.
+#[tactic(auto, using(crate::proofs::Digits::one_digit))]
+fn put_digit(out: &mut Vec<u8>, number: u64) -> Result<(), OutOfMemory>
+    requires { number < 10 }
+    ensures { OnOk result (out.new.items ≡ out.old.items ++ spaced_number number) }
+{
+    put(out, &[b' ', b'0' + number as u8])
+}
+
+/// A space and the digits of a number of two digits.
+#[tactic(auto, using(crate::proofs::Digits::two_digits))]
+fn put_digits(out: &mut Vec<u8>, number: u64) -> Result<(), OutOfMemory>
+    requires more { 10 ≤ number }
+    requires fewer { number < 100 }
+    ensures { OnOk result (out.new.items ≡ out.old.items ++ spaced_number number) }
+{
+    put(
+        out,
+        &[b' ', b'0' + (number / 10) as u8, b'0' + (number % 10) as u8],
+    )
+}
+
+/// A space and a number. Most numbers of a run have one digit or two, and are appended at once.
 fn put_field(out: &mut Vec<u8>, number: u64) -> Result<(), OutOfMemory>
     ensures { OnOk result (out.new.items ≡ out.old.items ++ spaced_number number) }
 {
+    if number < 10 {
+        return put_digit(out, number);
+    }
+    if number < 100 {
+        return put_digits(out, number);
+    }
     put(out, b" ")?;
     put_number(out, number)
 }
