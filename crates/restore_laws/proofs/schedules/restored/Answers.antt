@@ -1,0 +1,6 @@
+use Rattle.restore_laws.proofs.Steps.{certifies}
+use Rattle.restore_laws.proofs.schedules.restored.Goals as goal
+
+-- src/schedules.rt:10:1
+pub returns : goal.returns
+returns c = ?
