@@ -1,4 +1,3 @@
-use Rattle.restore_laws.proofs.Steps.{certifies}
 use Rattle.restore_laws.proofs.schedules.restored.Goals as goal
 
 -- src/schedules.rt:10:1
