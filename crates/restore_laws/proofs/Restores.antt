@@ -1,5 +1,5 @@
 -- After the run, what was kept is there again.
-use Rattle.std.proofs.Common.{◌≡◌, ℕ, List, [], length, map, fold, sym, ap, refl, ◌∙◌}
+use Rattle.std.proofs.Common.{◌≡◌, ◌≤◌, arith, ℕ, List, [], length, map, fold, sym, ap, refl, ◌∙◌}
 use Rattle.tcs_terms.specs.declared.inputs.Event.{Event}
 use Rattle.tcs_terms.specs.declared.inputs.Note.{Note}
 use Rattle.tcs_terms.specs.Payloads.{Accesses}
@@ -30,7 +30,7 @@ nothing_yet kept c = record {
   earlier = λ m r less s. absurd s;
   clear = λ r k s there. absurd s;
   counted = refl;
-  few = c.few;
+  few = let few : length kept ≤ 4096 = c.few in omega (arith, few);
   ascend = c.ascend;
 }
 
