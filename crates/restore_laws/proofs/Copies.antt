@@ -1,5 +1,5 @@
 -- One copy of the data after the payloads that put objects back.
-use Rattle.std.proofs.Common.{◌≡◌, ℕ, Bool, true, false, cond, List, [], ◌∷◌, map, find, fold, Option, Some, None, sym, ap, subst, refl, ◌∙◌}
+use Rattle.std.proofs.Common.{◌≡◌, ℕ, Bool, true, false, cond, List, [], ◌∷◌, map, find, fold, Option, Some, None, ap, subst, refl, ◌∙◌}
 use Rattle.tcs_terms.specs.Payloads.{Accesses, same_name}
 use Rattle.protocol.specs.OneCopy.{Copied, overwritten, copy_after}
 use Rattle.protocol.specs.Worked.Words.{writes}

@@ -1,5 +1,5 @@
 -- What is found in a list that grows at its end, and what is not found at all.
-use Rattle.std.proofs.Common.{◌≡◌, ℕ, zero, suc, ◌+◌, ◌-◌, ◌==◌, Bool, true, false, cond, List, [], ◌∷◌, ◌++◌, length, find, slice_get, Option, Some, None, inl, inr, sym, ap, refl, ◌∙◌, arith}
+use Rattle.std.proofs.Common.{◌≡◌, ℕ, ◌+◌, ◌-◌, Bool, false, cond, List, [], ◌∷◌, ◌++◌, length, find, slice_get, Option, Some, None, inl, inr, ap, refl, ◌∙◌, arith}
 use Rattle.std.proofs.lemmas.Bool.{ne_eqb}
 use Rattle.std.specs.List.{last_or}
 use Rattle.protocol.specs.Invariant.Time.{StandsIn}

@@ -1,5 +1,5 @@
 -- The history of a run that puts objects back: its order, and the payloads of the order.
-use Rattle.std.proofs.Common.{◌≡◌, ℕ, zero, suc, ◌+◌, ◌<◌, ◌==◌, Bool, true, false, not, cond, List, [], ◌∷◌, length, map, filter, filter_map, Option, Some, None, sym, ap, refl, ◌∙◌, arith, eq-eqb}
+use Rattle.std.proofs.Common.{◌≡◌, ℕ, zero, suc, ◌+◌, ◌<◌, Bool, not, cond, List, [], ◌∷◌, length, map, filter, filter_map, Option, Some, None, ap, refl, ◌∙◌, arith, eq-eqb}
 use Rattle.std.proofs.lemmas.Bool.{ne_eqb}
 use Rattle.std.specs.List.{range_with_len, cons_option}
 use Rattle.tcs_terms.specs.declared.ids.TxId.{TxId}

@@ -1,5 +1,5 @@
 -- Objects whose names differ do not stand in each other's way.
-use Rattle.std.proofs.Common.{◌≡◌, ℕ, ◌||◌, Bool, true, false, not, cond, List, [], ◌∷◌, map, find, Option, Some, None, is_some, inl, inr, sym, ap, ap₂, subst, refl, ◌∙◌}
+use Rattle.std.proofs.Common.{◌≡◌, ℕ, ◌||◌, Bool, true, false, not, cond, List, [], ◌∷◌, map, find, Option, Some, None, is_some, inr, sym, ap, ap₂, subst, refl, ◌∙◌}
 use Rattle.std.proofs.lemmas.Bool.{false_from_ne_true}
 use Rattle.tcs_terms.proofs.BoolLaws.{right_of}
 use Rattle.tcs_terms.specs.Order.{name_before, names_ascend}

@@ -1,5 +1,5 @@
 -- After the run, what was kept is there again.
-use Rattle.std.proofs.Common.{◌≡◌, ◌≤◌, arith, ℕ, List, [], length, map, fold, sym, ap, refl, ◌∙◌}
+use Rattle.std.proofs.Common.{◌≡◌, ◌≤◌, arith, List, [], length, map, fold, sym, ap, refl, ◌∙◌}
 use Rattle.tcs_terms.specs.declared.inputs.Event.{Event}
 use Rattle.tcs_terms.specs.declared.inputs.Note.{Note}
 use Rattle.tcs_terms.specs.Payloads.{Accesses}
@@ -13,7 +13,7 @@ use Rattle.protocol.specs.World.{World}
 use Rattle.protocol.specs.Worked.Words.{acted}
 use Rattle.protocol_laws.proofs.RunsOn.{ran-run}
 use Rattle.backup_machine.specs.declared.objects.Kept.{Kept}
-use Rattle.restore_laws.specs.Restored.{IsRestored, restored_history, first_txns}
+use Rattle.restore_laws.specs.Restored.{IsRestored, restored_history}
 use Rattle.restore_laws.specs.Schedules.{CanBeRestored, payload_of, restored_setup, restored_events}
 use Rattle.restore_laws.proofs.Copies.{copied}
 use Rattle.restore_laws.proofs.Histories.{notes_from, order_is, payloads_are}

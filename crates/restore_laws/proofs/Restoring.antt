@@ -1,5 +1,5 @@
 -- The run puts one object back after the other.
-use Rattle.std.proofs.Common.{◌≡◌, ◌⊎◌, ℕ, suc, ◌+◌, ◌*◌, ◌<◌, ◌≤◌, Bool, true, false, nat_le, List, [], ◌∷◌, ◌++◌, length, map, fold, Option, Some, None, inl, inr, sym, ap, subst, refl, ◌∙◌, arith, append-nil}
+use Rattle.std.proofs.Common.{◌≡◌, ◌⊎◌, ℕ, suc, ◌+◌, ◌*◌, ◌<◌, ◌≤◌, false, nat_le, List, [], ◌∷◌, ◌++◌, length, map, fold, None, inl, inr, sym, ap, subst, refl, ◌∙◌, arith, append-nil}
 use Rattle.std.proofs.lemmas.Bool.{ne_eqb, lt-leb}
 use Rattle.tcs_terms.specs.declared.inputs.Event.{Event}
 use Rattle.tcs_terms.specs.declared.inputs.Note.{Note}
@@ -13,10 +13,10 @@ use Rattle.tcs_laws.specs.Votes.{clashes, vote_by, vote_on}
 use Rattle.cert_serial.specs.Serial.{serial}
 use Rattle.protocol.proofs.Lists.{StandsIn-append}
 use Rattle.protocol.specs.Invariant.Time.{StandsIn}
-use Rattle.protocol.specs.Log.{row_of, is_full, last_slot, slot_or_zero, undecided}
+use Rattle.protocol.specs.Log.{is_full, last_slot, slot_or_zero, undecided}
 use Rattle.protocol.specs.Run.{Ran, ran_on}
 use Rattle.protocol.specs.World.{World, Sent, Happening, world_step}
-use Rattle.protocol.specs.Worked.Words.{txn, certify, deliver, begin, decide, acted}
+use Rattle.protocol.specs.Worked.Words.{txn, deliver, begin, decide, acted}
 use Rattle.backup_machine.specs.declared.objects.Kept.{Kept}
 use Rattle.restore_laws.specs.Schedules.{payload_of, events_of, events_from}
 use Rattle.restore_laws.proofs.Finding.{none-found, last-added, numbered}

@@ -1,7 +1,6 @@
 -- The three steps that put an object back.
-use Rattle.std.proofs.Common.{◌≡◌, ℕ, ◌+◌, ◌==◌, ◌≤◌, ◌&&◌, ◌||◌, Bool, true, false, cond, List, [], ◌∷◌, ◌++◌, Option, Some, None, length, filter, sum, ap, refl, ◌∙◌, le-leb}
+use Rattle.std.proofs.Common.{◌≡◌, ℕ, ◌+◌, ◌==◌, ◌≤◌, ◌&&◌, ◌||◌, Bool, true, false, cond, List, [], ◌∷◌, ◌++◌, Option, Some, None, length, sum, ap, refl, ◌∙◌, le-leb}
 use Rattle.std.proofs.Math.Nat.{mod-one}
-use Rattle.std.specs.Map.{lookup, remove_entry}
 use Rattle.tcs_terms.specs.declared.ids.TxId.{TxId}
 use Rattle.tcs_terms.specs.declared.inputs.Handled.TheVariants.{Full}
 use Rattle.tcs_terms.specs.declared.inputs.Note.{Note}
@@ -10,7 +9,6 @@ use Rattle.tcs_terms.specs.declared.messages.Message.TheVariants.{Prepare, Prepa
 use Rattle.tcs_terms.specs.declared.votes.Vote.{Vote}
 use Rattle.tcs_terms.specs.declared.votes.Vote.TheVariants as votes
 use Rattle.tcs_terms.specs.declared.votes.Decision.TheVariants as decisions
-use Rattle.tcs_terms.specs.Logs.{same_txn}
 use Rattle.tcs_terms.specs.Payloads.{Accesses}
 use Rattle.tcs_terms.specs.Preparations.{Preparation}
 use Rattle.tcs_terms.specs.Shards.{lies_in, shards_of, restricted}
@@ -24,9 +22,9 @@ use Rattle.protocol.specs.Coordination.{begins, begin_case, in_case, prepare_ack
 use Rattle.protocol.specs.Log.{row_of, is_full, last_slot, new_entry, undecided}
 use Rattle.protocol.specs.Outcomes.{Out, to, acts, tells, rests}
 use Rattle.protocol.specs.Records.{Case, Coordinator, NodeRecord}
-use Rattle.protocol.specs.ShardRules.{on_prepare, prepared, with_rows}
+use Rattle.protocol.specs.ShardRules.{prepared, with_rows}
 use Rattle.protocol.specs.Table.{noticed}
-use Rattle.protocol.specs.World.{World, Sent, Happening, happens_at, deliver_if_sent, message_of, world_step}
+use Rattle.protocol.specs.World.{World, Sent, happens_at, deliver_if_sent, message_of, world_step}
 use Rattle.protocol.specs.Worked.Words.{txn, entry, reads, writes, payload, certify, deliver, begin, decide, acted}
 use Rattle.protocol_laws.proofs.SameTxn.{same_txn-self}
 use Rattle.backup_machine.specs.declared.objects.Kept.{Kept}

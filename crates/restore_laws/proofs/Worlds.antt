@@ -1,5 +1,5 @@
 -- The worlds of a schedule's run that puts objects back, and what its node sends and notes for one.
-use Rattle.std.proofs.Common.{ℕ, ◌+◌, true, List, [], ◌∷◌, ◌++◌, Some, None}
+use Rattle.std.proofs.Common.{ℕ, true, List, [], ◌∷◌, Some, None}
 use Rattle.tcs_terms.specs.declared.ids.TxId.{TxId}
 use Rattle.tcs_terms.specs.declared.inputs.Note.{Note}
 use Rattle.tcs_terms.specs.declared.logs.Row.{Row}
@@ -9,12 +9,11 @@ use Rattle.tcs_terms.specs.declared.votes.Decision.TheVariants as decisions
 use Rattle.tcs_terms.specs.Payloads.{Accesses}
 use Rattle.tcs_terms.specs.Places.{Membership}
 use Rattle.tcs_terms.specs.Preparations.{Preparation}
-use Rattle.protocol.specs.Log.{undecided}
 use Rattle.protocol.specs.Records.{Case, NodeRecord}
 use Rattle.protocol.specs.Records.Role.{Leader}
 use Rattle.protocol.specs.Records.Stage.{Idle}
 use Rattle.protocol.specs.World.{World, Sent}
-use Rattle.protocol.specs.Worked.Words.{config, txn, entry, begin, decide, sent}
+use Rattle.protocol.specs.Worked.Words.{config, txn, entry, sent}
 
 abbrev pub only_config : Membership
 only_config = config 1 1 (1 ∷ []) 1 0

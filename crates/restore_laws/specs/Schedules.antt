@@ -1,5 +1,5 @@
 -- The schedule that puts back what a backup kept: one node, which leads the one shard, and three events for each object.
-use Rattle.std.specs.Prelude.{◌≡◌, ℕ, ◌+◌, ◌*◌, ◌<◌, ◌≤◌, List, [], ◌∷◌, ◌++◌, length, map, IsTrue, All}
+use Rattle.std.specs.Prelude.{ℕ, ◌+◌, ◌*◌, ◌≤◌, List, [], ◌∷◌, ◌++◌, length, map, IsTrue}
 use Rattle.tcs_terms.specs.declared.inputs.Event.{Event}
 use Rattle.tcs_terms.specs.declared.setups.Rule.TheVariants.{Serial}
 use Rattle.tcs_terms.specs.Order.{names_ascend}
