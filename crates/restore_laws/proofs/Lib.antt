@@ -6,3 +6,4 @@ pub mod Finding
 pub mod Copies
 pub mod Restoring
 pub mod Restores
+pub mod Fitting

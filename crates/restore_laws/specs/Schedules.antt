@@ -2,12 +2,14 @@
 use Rattle.std.specs.Prelude.{ℕ, ◌+◌, ◌*◌, ◌≤◌, List, [], ◌∷◌, ◌++◌, length, map, IsTrue}
 use Rattle.tcs_terms.specs.declared.inputs.Event.{Event}
 use Rattle.tcs_terms.specs.declared.setups.Rule.TheVariants.{Serial}
+use Rattle.tcs_terms.specs.Objects.{IsName, IsValue}
 use Rattle.tcs_terms.specs.Order.{names_ascend}
 use Rattle.tcs_terms.specs.Payloads.{Accesses}
 use Rattle.tcs_terms.specs.Setups.{Deployment}
 use Rattle.protocol.specs.Worked.Words.{deployment, config, payload, reads, writes, certify, deliver}
 use Rattle.backup_machine.specs.declared.objects.Kept.{Kept}
 use Rattle.backup_machine.specs.declared.objects.TheConstants.{MAX_OBJECTS}
+use Rattle.backup_machine.specs.Objects.{is_kept_version}
 
 -- version 2, serial certification, and node 1 alone in shard 1
 abbrev pub restored_setup : Deployment
@@ -35,3 +37,9 @@ restored_events kept = events_from 0 kept
 pub record CanBeRestored (kept : List Kept) : Type 0 where
   pub few : length kept ≤ MAX_OBJECTS
   pub ascend : IsTrue (names_ascend (map (λ (k : Kept). k.name) kept))
+
+-- an object as a backup keeps it: a name, a version from 1 on with one above it, and a value
+pub record IsKept (k : Kept) : Type 0 where
+  pub name : IsName k.name
+  pub version : IsTrue (is_kept_version k.version)
+  pub value : IsValue k.value
