@@ -16,7 +16,7 @@ use Rattle.restore_laws.specs.Schedules.{CanBeRestored, IsKept, payload_of, even
 use Rattle.restore_laws.proofs.Worlds.{only_config}
 
 first_of : {X : Type 0} (P : X → Type 0) (x : X) (xs : List X) → All P (x ∷ xs) → P x
-first_of P x xs h = h 0 x zero-lt-suc
+first_of P x xs h = h 0 x (zero-lt-suc _)
 
 others_of : {X : Type 0} (P : X → Type 0) (x : X) (xs : List X) → All P (x ∷ xs) → All P xs
 others_of P x xs h = λ k d less. h (suc k) d (suc-le-suc less)
