@@ -1,5 +1,5 @@
 -- The events of the schedule may stand in a run of its setup.
-use Rattle.std.proofs.Common.{◌≡◌, ℕ, suc, ◌+◌, ◌*◌, ◌<◌, ◌≤◌, ◌^◌, ◌&&◌, ◌||◌, Bool, true, false, nat_le, nat_lt, List, [], ◌∷◌, length, All, ap, refl, arith, leb-true, le-leb, lt-ltb, zero-lt-suc, suc-le-suc}
+use Rattle.std.proofs.Common.{ℕ, suc, ◌+◌, ◌*◌, ◌<◌, ◌≤◌, ◌&&◌, ◌||◌, Bool, true, false, nat_le, nat_lt, List, [], ◌∷◌, length, All, ap, refl, arith, leb-true, le-leb, lt-ltb, zero-lt-suc, suc-le-suc}
 use Rattle.std.proofs.lemmas.Bool.{ltb-true}
 use Rattle.std.proofs.lemmas.List.Elements.{All-nil, All-cons}
 use Rattle.std.specs.List.{AllByRecursion}
@@ -9,7 +9,7 @@ use Rattle.tcs_terms.specs.Payloads.{IsPayload, IsReadPart, IsRangePart, IsWrite
 use Rattle.tcs_terms.specs.Places.{IsMembership}
 use Rattle.tcs_terms.specs.Runs.{AreEventsOf, MayStand}
 use Rattle.tcs_terms.specs.Setups.{IsDeployment}
-use Rattle.protocol.specs.Worked.Words.{certify, deliver, reads, writes}
+use Rattle.protocol.specs.Worked.Words.{deliver, reads, writes}
 use Rattle.protocol_laws.proofs.NamesOnce.{same_name-self}
 use Rattle.backup_machine.specs.declared.objects.Kept.{Kept}
 use Rattle.restore_laws.specs.Schedules.{CanBeRestored, IsKept, payload_of, events_from, restored_events, restored_setup}
