@@ -1,0 +1,4 @@
+pub mod Names
+pub mod Cutting
+pub mod Slicing
+pub mod Keeping
