@@ -1,8 +1,8 @@
 -- The lines of a backup file, and which of them may stand where.
 use Rattle.std.specs.Prelude.{ℕ, ◌+◌, ◌<◌, ◌≤◌, ◌≡◌, Bool, true, false, ◌&&◌, nat_le, nat_lt, List, [], ◌++◌, length, codes, decimal, Option, Some, None, IsTrue}
 use Rattle.std.specs.List.{list_all}
-use Rattle.tcs_terms.specs.declared.limits.TheConstants.{MAX_NODES, MAX_SEQUENCE}
 use Rattle.tcs_terms.specs.declared.ids.TxId.{TxId}
+use Rattle.tcs_terms.specs.Messages.{is_txn}
 use Rattle.tcs_terms.specs.Objects.{IsName, IsValue}
 use Rattle.tcs_terms.specs.Order.{name_before}
 use Rattle.text_words.specs.PayloadText.{value_text}
@@ -63,6 +63,10 @@ pub record Standing : Type 0 where
   pub calls : ℕ
   pub objects : ℕ
 
+-- there are no more objects than may be
+pub record IsStanding (s : Standing) : Type 0 where
+  pub few : s.objects ≤ MAX_OBJECTS
+
 -- behind no line
 abbrev pub at_start : Standing
 at_start = record { stage = Start; span = None; last = None; calls = 0; objects = 0 }
@@ -87,7 +91,7 @@ in_span (Some span) name = in_range span.from span.upto name
 -- a transaction that can be
 abbrev pub IsPlace : Option TxId → Type 0
 IsPlace None = Unit {0}
-IsPlace (Some txn) = (1 ≤ txn.home) × (txn.home ≤ MAX_NODES) × (1 ≤ txn.seq) × (txn.seq ≤ MAX_SEQUENCE)
+IsPlace (Some txn) = IsTrue (is_txn txn)
 
 -- whether objects or the end may come: behind the place, or the dash
 abbrev pub has_place : Stage → Bool

@@ -1,7 +1,7 @@
 //! Reads a backup file line by line.
 ghost use Rattle.std.specs.Prelude.{◌≡◌, IfOk, OnErr};
-ghost use Rattle.backup_text.specs.Lines.{at_start};
-ghost use Rattle.backup_text.specs.Readings.{head_of, call_of, place_of, object_of, takes_object, end_of, line_of, line_in, Takes, Answers};
+ghost use Rattle.backup_text.specs.Lines.{Line, line_text, IsStanding, MayStand, at_start};
+ghost use Rattle.backup_text.specs.Readings.{head_of, call_of, place_of, object_of, takes_object, end_of, line_of, line_in, Takes, Answers, Accepts, IsMemoryOr};
 
 use crate::items::{BackupItem, BackupLineFault};
 use crate::limits::MAX_CALLS;
@@ -24,11 +24,13 @@ pub struct BackupReader {
 }
 
 impl Model for BackupReader {
-    ghost use Rattle.backup_text.specs.Lines.{Standing};
+    ghost use Rattle.backup_text.specs.Lines.{Standing, IsStanding};
 
     ghost Value = { Standing };
 
     ghost view = { λ r. record { stage = r.stage; span = r.span; last = r.last; calls = r.calls; objects = r.objects } };
+
+    ghost invariant = { λ r. IsStanding (record { stage = r.stage; span = r.span; last = r.last; calls = r.calls; objects = r.objects }) };
 }
 
 impl BackupReader {
@@ -50,9 +52,21 @@ impl BackupReader {
     /// # Errors
     /// `Bad` exactly where the line is none that may stand behind the lines so far.
     pub fn take(&mut self, alloc: Global, line: &[u8]) -> Result<BackupItem, BackupLineFault>
+        // What is taken is a line that may stand there, and the item is its.
+        ensures found { IfOk result (Accepts self.old line.now self.new) }
+        // A line that may stand there is taken, unless memory runs out.
+        ensures only { (wanted : Line) → MayStand self.old wanted → line.now ≡ line_text wanted → IsMemoryOr self.old wanted self.new result }
         // Which line it is.
         ensures exact { Answers self.old self.new result (line_in self.old line.now) }
         ensures err { OnErr result (self.new ≡ self.old) }
+    {
+        self.answer(alloc, line)
+    }
+
+    fn answer(&mut self, alloc: Global, line: &[u8]) -> Result<BackupItem, BackupLineFault>
+        ensures exact { Answers self.old self.new result (line_in self.old line.now) }
+        ensures err { OnErr result (self.new ≡ self.old) }
+        ensures standing { IsStanding self.old }
     {
         match self.take_line(alloc, line) {
             Ok(Some(item)) => Ok(item),
