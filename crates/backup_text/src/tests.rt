@@ -4,69 +4,45 @@ use std::alloc::Global;
 use std::test::Fail;
 use tcs_terms::{Name, TxId, Value};
 
-/// Reads lines one by one, and answers how many were taken.
-fn taken(alloc: Global, lines: &[&[u8]]) -> Result<usize, Fail> {
+/// A reader behind these lines.
+fn behind(alloc: Global, lines: &[&[u8]]) -> Result<BackupReader, Fail> {
     let mut reader = BackupReader::new();
-    for (count, line) in lines.iter().enumerate() {
-        if reader.take(alloc, line).is_err() {
-            return Ok(count);
-        }
+    for line in lines {
+        reader.take(alloc, line)?;
     }
-    Ok(lines.len())
+    Ok(reader)
 }
 
 #[test]
-fn lines_are_taken_up_to_the_first_bad_one(rt: HostRuntime) -> Result<(), Fail> {
+fn a_line_is_taken_where_it_may_stand(rt: HostRuntime) -> Result<(), Fail> {
     let head = b"backup 1 a c".as_slice();
+    let call = b"did read 1 a".as_slice();
     let place = b"cut 1.3".as_slice();
     let first = b"obj a 1 05".as_slice();
     let second = b"obj b 1 06".as_slice();
-    for (lines, want) in [
-        (
-            [
-                head,
-                b"did read 1 a".as_slice(),
-                place,
-                first,
-                second,
-                b"end 2".as_slice(),
-            ],
-            6,
-        ),
-        (
-            [
-                head,
-                b"obj b 0 06".as_slice(),
-                b"end 1".as_slice(),
-                head,
-                head,
-                head,
-            ],
-            1,
-        ),
-        (
-            [
-                head,
-                b"cut -".as_slice(),
-                b"end 0".as_slice(),
-                head,
-                head,
-                head,
-            ],
-            3,
-        ),
-        ([head, b"cut -".as_slice(), first, head, head, head], 2),
-        ([head, place, second, first, head, head], 3),
-        ([head, place, b"obj c 1 -".as_slice(), head, head, head], 2),
-        ([head, place, b"obj b 0 06".as_slice(), head, head, head], 2),
-        ([head, place, first, b"end 2".as_slice(), head, head], 3),
-        (
-            [b"backup 1 c a".as_slice(), place, head, head, head, head],
-            0,
-        ),
-        ([head, b"did ".as_slice(), head, head, head, head], 1),
+    let begun = [head, call];
+    let placed = [head, call, place];
+    let whole = [head, call, place, first, second];
+    let dashed = [head, call, b"cut -".as_slice()];
+    for (before, line, stands) in [
+        ([].as_slice(), head, true),
+        ([].as_slice(), b"backup 1 c a".as_slice(), false),
+        ([].as_slice(), b"backup 2 a c".as_slice(), false),
+        (begun.as_slice(), b"did ".as_slice(), false),
+        (begun.as_slice(), b"obj b 0 06".as_slice(), false),
+        (begun.as_slice(), b"cut 65.1".as_slice(), false),
+        (placed.as_slice(), call, false),
+        (placed.as_slice(), second, true),
+        (placed.as_slice(), b"obj b 0 06".as_slice(), false),
+        (placed.as_slice(), b"obj c 1 -".as_slice(), false),
+        (placed.as_slice(), b"end 1".as_slice(), false),
+        (whole.as_slice(), second, false),
+        (whole.as_slice(), b"end 2".as_slice(), true),
+        (dashed.as_slice(), first, false),
+        (dashed.as_slice(), b"end 0".as_slice(), true),
     ] {
-        assert_eq!(rt; taken(rt.alloc(), &lines)?, want);
+        let mut reader = behind(rt.alloc(), before)?;
+        assert_eq!(rt; reader.take(rt.alloc(), line).is_ok(), stands);
     }
     Ok(())
 }
