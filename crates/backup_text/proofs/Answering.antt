@@ -1,7 +1,7 @@
 -- What an answer says, by what reading gives.
 use Rattle.std.proofs.Common.{◌≡◌, ℕ, List, Option, Some, None, Result, Ok, Err, refl}
 use Rattle.std.specs.Prelude.{IfOk}
-use Rattle.trace_text.proofs.Steps.{some_is}
+use Rattle.backup_text.proofs.Steps.{some_is}
 use Rattle.backup_text.specs.declared.items.BackupItem.{BackupItem}
 use Rattle.backup_text.specs.declared.items.BackupLineFault.{BackupLineFault}
 use Rattle.backup_text.specs.declared.items.BackupLineFault.TheVariants.{Bad, OutOfMemory}

@@ -15,10 +15,10 @@ use Rattle.text_words.specs.PayloadWords.{name_in, number_in}
 use Rattle.text_words.specs.Texts.{txn_text}
 use Rattle.text_words.proofs.ValueLaws.{value_in_takes, value_in_again}
 use Rattle.text_words.proofs.WordReadings.{number_in_takes, number_in_again, name_in_takes, name_in_again}
-use Rattle.trace_text.specs.Words.{cut, is_word, txn_in}
-use Rattle.trace_text.proofs.Steps.{bind_some, some_is, kept, either}
-use Rattle.trace_text.proofs.Cuts.{lacks, cut_takes, cut_again}
-use Rattle.trace_text.proofs.PlainWords.{word_is, decimal_lacks, name_lacks, txn_takes, txn_again, txn_lacks}
+use Rattle.backup_text.specs.Words.{cut, is_word, txn_in}
+use Rattle.backup_text.proofs.Steps.{bind_some, some_is, kept, either}
+use Rattle.backup_text.proofs.Cuts.{lacks, cut_takes, cut_again}
+use Rattle.backup_text.proofs.PlainWords.{word_is, decimal_lacks, name_lacks, txn_takes, txn_again, txn_lacks}
 use Rattle.backup_machine.specs.declared.objects.Kept.{Kept}
 use Rattle.backup_machine.specs.declared.objects.TheConstants.{MAX_OBJECTS}
 use Rattle.backup_machine.specs.Objects.{comes_after}

@@ -15,7 +15,7 @@ use Rattle.backup_text.specs.declared.items.BackupLineFault.TheVariants.{Bad, Ou
 use Rattle.backup_text.specs.declared.stages.Span.{Span}
 use Rattle.backup_text.specs.declared.stages.Stage.{Stage}
 use Rattle.backup_text.specs.declared.stages.Stage.TheVariants.{Start, Begun, AtPlace, NoPlace, Ended}
-use Rattle.trace_text.specs.Words.{◌>>=◌, first_word, is_word, txn_in}
+use Rattle.backup_text.specs.Words.{◌>>=◌, first_word, is_word, txn_in}
 use Rattle.backup_text.specs.Lines.{Line, HeadLine, CallLine, PlaceLine, ObjectLine, EndLine, line_text, Standing, MayStand, after, item_of, in_span, has_place, is_call}
 
 abbrev pub is_start : Stage → Bool

@@ -5,7 +5,7 @@ ghost use Rattle.std.specs.Option.{option_map};
 ghost use Rattle.text_words.specs.PayloadWords.{is_printable};
 ghost use Rattle.backup_text.specs.Lines.{is_call};
 ghost use Rattle.backup_text.specs.Readings.{span_in, place_in, object_in};
-ghost use Rattle.trace_text.specs.Words.{cut, number_within, txn_in};
+ghost use Rattle.backup_text.specs.Words.{cut, number_within, txn_in};
 
 use crate::limits::MAX_CALL;
 use crate::stages::Span;
@@ -23,7 +23,7 @@ fn place_of(text: &[u8], wanted: u8) -> Option<usize>
 }
 
 /// What stands before and after the first of these bytes.
-#[tactic(auto, unfolding(trace_text::specs::Words::cut))]
+#[tactic(auto, unfolding(crate::specs::Words::cut))]
 pub(crate) fn cut(text: &[u8], byte: u8) -> Option<(&[u8], &[u8])>
     ensures { option_map (λ parts. (parts.0.now, parts.1.now)) result ≡ cut byte text.now }
 {
@@ -32,7 +32,7 @@ pub(crate) fn cut(text: &[u8], byte: u8) -> Option<(&[u8], &[u8])>
 }
 
 /// A number from the first one to the last one.
-#[tactic(auto, unfolding(trace_text::specs::Words::number_within))]
+#[tactic(auto, unfolding(crate::specs::Words::number_within))]
 fn number_within(word: &[u8], low: u64, high: u64) -> Option<u64>
     ensures value { result ≡ number_within low high word.now }
     ensures range { IfSome result (λ n. (low ≤ n) × (n ≤ high)) }
@@ -46,7 +46,7 @@ fn number_within(word: &[u8], low: u64, high: u64) -> Option<u64>
 }
 
 /// A transaction.
-#[tactic(auto, unfolding(trace_text::specs::Words::txn_in))]
+#[tactic(auto, unfolding(crate::specs::Words::txn_in))]
 fn txn_in(text: &[u8]) -> Option<TxId>
     ensures { result ≡ txn_in text.now }
 {
