@@ -1,0 +1,5 @@
+pub mod Steps
+pub mod Cuts
+pub mod PlainWords
+pub mod LineWords
+pub mod Answering
