@@ -77,11 +77,11 @@ delivers_second c [] = does Nudge c
 delivers_second c (n ∷ []) = does Nudge c
 delivers_second c (m ∷ n ∷ ns) = does (Deliver n) (record c { queue = m ∷ ns })
 
--- What a word lets happen, the first of these that applies. `open` says whether node 9 has an open case, and `sent` is
+-- What a word lets happen, the first of these that applies. `waits` says whether node 9 has an open case, and `sent` is
 -- the number of messages so far.
 abbrev pub by_word : Bool → ℕ → ℕ → CourseState → Chosen
-by_word open sent w c =
-    if (length c.queue == 0) && open && (w % 2 == 0) then does Nudge c
+by_word waits sent w c =
+    if (length c.queue == 0) && waits && (w % 2 == 0) then does Nudge c
     else if is_collecting c.transfer || (length c.queue == 0) || (w % 16 == 0) then goes_on c c.transfer
     else if w % 16 == 1 then does (Deliver (1 + w / 16 % sent)) c
     else if (w % 16 == 2) && nat_le 2 (length c.queue) then delivers_second c c.queue
@@ -89,15 +89,15 @@ by_word open sent w c =
 
 -- a word is taken
 abbrev pub with_word : Bool → ℕ → CourseState → Chosen
-with_word open sent c = by_word open sent (word c.words) (record c { words = later c.words })
+with_word waits sent c = by_word waits sent (word c.words) (record c { words = later c.words })
 
 abbrev pub fixed_or : Option Doing → Bool → ℕ → CourseState → Chosen
-fixed_or None open sent c = with_word open sent c
-fixed_or (Some doing) open sent c = does doing c
+fixed_or None waits sent c = with_word waits sent c
+fixed_or (Some doing) waits sent c = does doing c
 
 -- what happens at a place of a schedule of so many events
 abbrev pub chosen : ℕ → ℕ → Bool → ℕ → CourseState → Chosen
-chosen count place open sent c = fixed_or (fixed_at count place) open sent c
+chosen count place waits sent c = fixed_or (fixed_at count place) waits sent c
 
 -- ---- what the event comes to
 

@@ -1,5 +1,5 @@
 //! What happens next in a schedule.
-ghost use Rattle.std.specs.Prelude.{◌≡◌};
+ghost use Rattle.std.specs.Prelude.{◌≡◌, ◌≤◌};
 ghost use Rattle.generator.specs.Choices.{fixed_at};
 
 use tcs_terms::Payload;
