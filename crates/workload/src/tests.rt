@@ -1,0 +1,3 @@
+use crate::{generate, soak};
+use std::test::Fail;
+use tcs_io::MemSink;
