@@ -2,8 +2,8 @@
 use Rattle.std.specs.Prelude.{◌≡◌, ℕ, ◌≤◌, List, [], ◌++◌, map, Option, Some}
 use Rattle.std.specs.List.{flat_map}
 use Rattle.schedule_text.specs.Text.{setup_lines, with_feed, event_line, schedule_text}
-use Rattle.workload.specs.Setup.{setup}
-use Rattle.workload.specs.Runs.{events_until, schedule}
+use Rattle.generated_runs.specs.Setup.{setup}
+use Rattle.generated_runs.specs.Runs.{events_until, schedule}
 
 -- the header and the lines of the first so many events
 abbrev pub front_until : ℕ → ℕ → ℕ → List ℕ

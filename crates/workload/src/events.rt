@@ -2,7 +2,7 @@
 ghost use Rattle.std.specs.Prelude.{◌≡◌, ◌<◌, ℕ, false, IfOk};
 ghost use Rattle.protocol_laws.specs.Promises.{world_of};
 ghost use Rattle.generator.specs.declared.doings.Doing.TheVariants as doings;
-ghost use Rattle.workload.specs.Sights.{event_of, taken_over, nudged, moved_by};
+ghost use Rattle.generated_runs.specs.Sights.{event_of, taken_over, nudged, moved_by};
 
 use crate::sights::{CLIENT, TAKER, orphan_in, reader_in};
 use generator::{Doing, account_name};

@@ -2,8 +2,8 @@
 ghost use Rattle.std.specs.Prelude.{◌≡◌, ◌<◌, ◌≤◌, ◌+◌, false, length, IfOk, OnOk, IfErr};
 ghost use Rattle.cert_serial.specs.Serial.{serial};
 ghost use Rattle.protocol_laws.specs.Promises.{world_of};
-ghost use Rattle.workload.specs.Setup.{setup};
-ghost use Rattle.workload.specs.Runs.{State, after, next_event};
+ghost use Rattle.generated_runs.specs.Setup.{setup};
+ghost use Rattle.generated_runs.specs.Runs.{State, after, next_event};
 
 use crate::events::event_of;
 use crate::setups::generated_setup;

@@ -1,6 +1,6 @@
 //! The setup of every generated schedule.
 ghost use Rattle.std.specs.Prelude.{◌≡◌, ◌<◌, ◌≤◌, IfOk};
-ghost use Rattle.workload.specs.Setup.{config_of, setup};
+ghost use Rattle.generated_runs.specs.Setup.{config_of, setup};
 
 use std::alloc::Global;
 use tcs_terms::{Config, OutOfMemory, Rule, Setup};

@@ -4,7 +4,7 @@ ghost use Rattle.std.specs.Option.{option_map};
 ghost use Rattle.protocol.specs.ClientRules.{is_undecided};
 ghost use Rattle.protocol.specs.World.{node_of};
 ghost use Rattle.protocol_laws.specs.Promises.{world_of};
-ghost use Rattle.workload.specs.Sights.{waits_in, reader_in, orphan_of, is_orphan, known_leader, has_open_case};
+ghost use Rattle.generated_runs.specs.Sights.{waits_in, reader_in, orphan_of, is_orphan, known_leader, has_open_case};
 
 use generator::account_name;
 use node_core::Node;

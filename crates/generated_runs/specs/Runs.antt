@@ -12,8 +12,8 @@ use Rattle.generator.specs.declared.doings.Doing.{Doing}
 use Rattle.generator.specs.declared.doings.Doing.TheVariants as doings
 use Rattle.generator.specs.declared.transfers.Transfer.{Transfer}
 use Rattle.generator.specs.Courses.{CourseState, Chosen, first_course, chosen, with_notes, numbers_behind}
-use Rattle.workload.specs.Setup.{setup}
-use Rattle.workload.specs.Sights.{waits_in, event_of}
+use Rattle.generated_runs.specs.Setup.{setup}
+use Rattle.generated_runs.specs.Sights.{waits_in, event_of}
 
 -- what the generator keeps, and the run at its side
 pub record State : Type 0 where
