@@ -1,0 +1,127 @@
+-- What is chosen reads what the transfer asks for, and hands in what was read.
+use Rattle.std.proofs.Common.{◌≡◌, ℕ, ◌+◌, ◌-◌, ◌%◌, ◌^◌, Bool, true, false, ◌&&◌, if◌then◌else◌, List, [], ◌∷◌, map, Option, Some, None, refl, sym, ap, ◌∙◌, subst}
+use Rattle.std.specs.List.{list_all, list_any}
+use Rattle.std.proofs.lemmas.Bool.{and_from}
+use Rattle.tcs_terms.specs.declared.inputs.Note.{Note}
+use Rattle.tcs_terms.specs.declared.payloads.ReadPart.{ReadPart}
+use Rattle.tcs_terms.specs.Order.{name_before}
+use Rattle.tcs_terms.specs.Payloads.{Accesses, same_name}
+use Rattle.protocol.specs.OneCopy.{tells_version}
+use Rattle.store_client.specs.declared.parts.Part.{Part}
+use Rattle.store_client.specs.Parts.{with_read, with_put, reads, read_of}
+use Rattle.generator.specs.declared.accounts.Reading.{Reading}
+use Rattle.generator.specs.declared.transfers.Transfer.{Transfer}
+use Rattle.generator.specs.declared.transfers.Transfer.TheVariants.{Idle, Begun, Half, Whole}
+use Rattle.generator.specs.declared.doings.Doing.{Doing}
+use Rattle.generator.specs.declared.doings.Doing.TheVariants as doings
+use Rattle.generator.specs.Accounts.{account_name, balance_bytes, balance_of, amount_of, part_of, both_read, moved, transfer_payload}
+use Rattle.generator.specs.Choices.{fixed_at}
+use Rattle.generator.specs.Courses.{CourseState, Chosen, does, goes_on, delivers_first, delivers_second, by_word, with_word, fixed_or, chosen}
+use Rattle.generator.specs.Words.{word, later}
+
+-- ---- what was read
+
+-- an account was read at that version
+abbrev pub WasRead : List Note → Reading → Type 0
+WasRead h r = list_any (tells_version (account_name r.account) r.version) h ≡ true
+
+abbrev pub Seen : List Note → Transfer → Type 0
+Seen h Idle = Unit {0}
+Seen h (Begun from to) = Unit {0}
+Seen h (Half from to) = WasRead h from
+Seen h (Whole from to) = WasRead h from × WasRead h to
+
+-- whether a read was made at that version
+abbrev pub was_told : List Note → ReadPart → Bool
+was_told h r = list_any (tells_version r.name r.version) h
+
+-- all that a payload reads was read
+abbrev pub IsHonest : List Note → Accesses → Type 0
+IsHonest h p = list_all (was_told h) p.reads ≡ true
+
+put_reads : (name value : List ℕ) (ps : List Part) → reads (with_put name value ps) ≡ reads ps
+put_reads name value [] = refl
+put_reads name value (p ∷ ps) = go (same_name p.name name) where
+  go : (b : Bool) → reads (if b then record p { put = Some value } ∷ ps else p ∷ with_put name value ps) ≡ reads (p ∷ ps)
+  go true = refl
+  go false = ap (λ (rs : List ReadPart). read_of p ∷ rs) (put_reads name value ps)
+
+both_told : (h : List Note) (from to : Reading) → WasRead h from → WasRead h to → list_all (was_told h) (reads (both_read from to)) ≡ true
+both_told h from to a b = go (name_before (account_name from.account) (account_name to.account)) where
+  go : (first : Bool) → list_all (was_told h) (reads (if first then part_of from ∷ part_of to ∷ [] else part_of to ∷ part_of from ∷ [])) ≡ true
+  go true = and_from (was_told h (read_of (part_of from))) (was_told h (read_of (part_of to)) && true) a (and_from (was_told h (read_of (part_of to))) true b refl)
+  go false = and_from (was_told h (read_of (part_of to))) (was_told h (read_of (part_of from)) && true) b (and_from (was_told h (read_of (part_of from))) true a refl)
+
+transfer_is_honest : (h : List Note) (from to : Reading) (w : ℕ) → WasRead h from → WasRead h to → IsHonest h (transfer_payload from to w)
+transfer_is_honest h from to w a b =
+    let amount = amount_of (balance_of from.value) w in
+    let lower = with_put (account_name from.account) (balance_bytes (balance_of from.value - amount)) (both_read from to) in
+    ap (list_all (was_told h))
+    (put_reads (account_name to.account) (balance_bytes ((balance_of to.value + amount) % 2 ^ 64)) lower
+    ∙ put_reads (account_name from.account) (balance_bytes (balance_of from.value - amount)) (both_read from to))
+    ∙ both_told h from to a b
+
+-- ---- what is chosen
+
+-- the account that is read is the one that the transfer asks for
+abbrev pub Asks : ℕ → Transfer → Type 0
+Asks account Idle = ⊥
+Asks account (Begun from to) = account ≡ from
+Asks account (Half from to) = account ≡ to
+Asks account (Whole from to) = ⊥
+
+abbrev pub IsFair : List Note → Doing → Transfer → Type 0
+IsFair h doings.Stop t = Unit {0}
+IsFair h doings.FirstMove t = Unit {0}
+IsFair h doings.TakeOver t = Unit {0}
+IsFair h doings.SecondMove t = Unit {0}
+IsFair h doings.Nudge t = Unit {0}
+IsFair h (doings.Deliver number) t = Unit {0}
+IsFair h (doings.Read account) t = Asks account t
+IsFair h (doings.Certify payload) t = IsHonest h payload
+
+pub record Stands (h : List Note) (x : Chosen) : Type 0 where
+  pub seen : Seen h x.course.transfer
+  pub fair : IsFair h x.doing x.course.transfer
+
+if_both : {A : Type 0} (P : A → Type 0) (b : Bool) {x y : A} → P x → P y → P (if b then x else y)
+if_both P true p q = p
+if_both P false p q = q
+
+goes_on-stands : (h : List Note) (c : CourseState) (t : Transfer) → c.transfer ≡ t → Seen h t → Stands h (goes_on c t)
+goes_on-stands h c Idle e s = record { seen = tt; fair = refl }
+goes_on-stands h c (Begun from to) e s = record { seen = subst (Seen h) (sym e) s; fair = subst (Asks from) (sym e) refl }
+goes_on-stands h c (Half from to) e s = record { seen = subst (Seen h) (sym e) s; fair = subst (Asks to) (sym e) refl }
+goes_on-stands h c (Whole from to) e s = record { seen = tt; fair = transfer_is_honest h from to (word c.words) s.0 s.1 }
+
+first-stands : (h : List Note) (c : CourseState) (queue : List ℕ) → Seen h c.transfer → Stands h (delivers_first c queue)
+first-stands h c [] s = record { seen = s; fair = tt }
+first-stands h c (n ∷ ns) s = record { seen = s; fair = tt }
+
+second-stands : (h : List Note) (c : CourseState) (queue : List ℕ) → Seen h c.transfer → Stands h (delivers_second c queue)
+second-stands h c [] s = record { seen = s; fair = tt }
+second-stands h c (n ∷ []) s = record { seen = s; fair = tt }
+second-stands h c (m ∷ n ∷ ns) s = record { seen = s; fair = tt }
+
+by_word-stands : (h : List Note) (waits : Bool) (sent w : ℕ) (c : CourseState) → Seen h c.transfer → Stands h (by_word waits sent w c)
+by_word-stands h waits sent w c s =
+    if_both (Stands h) _ (record { seen = s; fair = tt })
+    (if_both (Stands h) _ (goes_on-stands h c c.transfer refl s)
+    (if_both (Stands h) _ (record { seen = s; fair = tt })
+    (if_both (Stands h) _ (second-stands h c c.queue s) (first-stands h c c.queue s))))
+
+-- what stands at a fixed place reads nothing and hands in nothing
+abbrev pub IsFixed : Option Doing → Type 0
+IsFixed None = Unit {0}
+IsFixed (Some doing) = (h : List Note) (t : Transfer) → IsFair h doing t
+
+fixed-is : (count place : ℕ) → IsFixed (fixed_at count place)
+fixed-is count place =
+    if_both IsFixed _ (λ h t. tt) (if_both IsFixed _ (λ h t. tt) (if_both IsFixed _ (λ h t. tt) (if_both IsFixed _ (λ h t. tt) tt)))
+
+fixed_or-stands : (h : List Note) (fixed : Option Doing) (waits : Bool) (sent : ℕ) (c : CourseState) → IsFixed fixed → Seen h c.transfer → Stands h (fixed_or fixed waits sent c)
+fixed_or-stands h None waits sent c f s = by_word-stands h waits sent (word c.words) (record c { words = later c.words }) s
+fixed_or-stands h (Some doing) waits sent c f s = record { seen = s; fair = f h c.transfer }
+
+pub chosen_stands : (h : List Note) (count place : ℕ) (waits : Bool) (sent : ℕ) (c : CourseState) → Seen h c.transfer → Stands h (chosen count place waits sent c)
+chosen_stands h count place waits sent c s = fixed_or-stands h (fixed_at count place) waits sent c (fixed-is count place) s

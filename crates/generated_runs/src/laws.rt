@@ -1,0 +1,18 @@
+//! What holds of every generated run.
+ghost use Rattle.std.specs.Prelude.{◌≡◌, ℕ, true};
+ghost use Rattle.cert_serial.specs.Serial.{serial};
+ghost use Rattle.protocol.specs.Limit.{limited_run};
+ghost use Rattle.protocol.specs.OneCopy.{is_honest};
+ghost use Rattle.protocol_laws.specs.Promises.{world_of};
+ghost use Rattle.generated_runs.specs.Setup.{setup};
+ghost use Rattle.generated_runs.specs.Runs.{generated, events_until};
+
+/// The run that the generator steps is the run of the events that it chose.
+pub fn runs_its_events()
+    ensures { (seed count place : ℕ) → (generated seed count place).progress ≡ limited_run serial setup (events_until seed count place) }
+{}
+
+/// Reads are honest: before a transaction begins, each object that it reads was read at that version.
+pub fn reads_are_honest()
+    ensures { (seed count place : ℕ) → is_honest (world_of (generated seed count place).progress).history ≡ true }
+{}
