@@ -5,6 +5,8 @@
 mod accounts;
 mod course;
 mod doings;
+#[cfg(test)]
+mod tests;
 mod transfers;
 
 pub use accounts::{Reading, account_name};
