@@ -63,12 +63,12 @@ transfer_is_honest h from to w a b =
 
 -- ---- what is chosen
 
--- the account that is read is the one that the transfer asks for
-abbrev pub Asks : ℕ → Transfer → Type 0
-Asks account Idle = ⊥
-Asks account (Begun from to) = account ≡ from
-Asks account (Half from to) = account ≡ to
-Asks account (Whole from to) = ⊥
+-- the object that is read is the account that the transfer asks for
+abbrev pub Asks : List ℕ → Transfer → Type 0
+Asks name Idle = ⊥
+Asks name (Begun from to) = name ≡ account_name from
+Asks name (Half from to) = name ≡ account_name to
+Asks name (Whole from to) = ⊥
 
 abbrev pub IsFair : List Note → Doing → Transfer → Type 0
 IsFair h doings.Stop t = Unit {0}
@@ -77,7 +77,7 @@ IsFair h doings.TakeOver t = Unit {0}
 IsFair h doings.SecondMove t = Unit {0}
 IsFair h doings.Nudge t = Unit {0}
 IsFair h (doings.Deliver number) t = Unit {0}
-IsFair h (doings.Read account) t = Asks account t
+IsFair h (doings.Read name) t = Asks name t
 IsFair h (doings.Certify payload) t = IsHonest h payload
 
 pub record Stands (h : List Note) (x : Chosen) : Type 0 where
@@ -90,8 +90,8 @@ if_both P false p q = q
 
 goes_on-stands : (h : List Note) (c : CourseState) (t : Transfer) → c.transfer ≡ t → Seen h t → Stands h (goes_on c t)
 goes_on-stands h c Idle e s = record { seen = tt; fair = refl }
-goes_on-stands h c (Begun from to) e s = record { seen = subst (Seen h) (sym e) s; fair = subst (Asks from) (sym e) refl }
-goes_on-stands h c (Half from to) e s = record { seen = subst (Seen h) (sym e) s; fair = subst (Asks to) (sym e) refl }
+goes_on-stands h c (Begun from to) e s = record { seen = subst (Seen h) (sym e) s; fair = subst (Asks (account_name from)) (sym e) refl }
+goes_on-stands h c (Half from to) e s = record { seen = subst (Seen h) (sym e) s; fair = subst (Asks (account_name to)) (sym e) refl }
 goes_on-stands h c (Whole from to) e s = record { seen = tt; fair = transfer_is_honest h from to (word c.words) s.0 s.1 }
 
 first-stands : (h : List Note) (c : CourseState) (queue : List ℕ) → Seen h c.transfer → Stands h (delivers_first c queue)

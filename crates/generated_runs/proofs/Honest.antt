@@ -82,7 +82,7 @@ begun_fairly h w doings.TakeOver t node p f e = absurd (not_taken (orphan_of (no
 begun_fairly h w doings.SecondMove t node p f e = absurd (cc e)
 begun_fairly h w doings.Nudge t node p f e = absurd (cc e)
 begun_fairly h w (doings.Deliver number) t node p f e = absurd (cc e)
-begun_fairly h w (doings.Read account) t node p f e = absurd (cc e)
+begun_fairly h w (doings.Read name) t node p f e = absurd (cc e)
 begun_fairly h w (doings.Certify payload) t node p f e = let same : payload ≡ p = cc e in subst (IsHonest h) same f
 
 fair_note : (h : List Note) (w : World) (doing : Doing) (t : Transfer) (event : Event) (n : Note) → event ≡ event_of w doing → IsFair h doing t → NotedAt event n → honest_after h n ≡ true
@@ -99,29 +99,27 @@ still_honest h ns w doing t event e a f (inr one) =
 
 -- ---- what a transfer hears was read
 
-of_reading : (h : List Note) (t : Transfer) (account : ℕ) (name : List ℕ) (version : ℕ) (value : List ℕ) → name ≡ account_name account → Seen h t → Asks account t
-    → Seen (h ++ notes.ReadValue name version value ∷ []) (with_reading t version value)
-of_reading h Idle account name version value is s a = tt
-of_reading h (Begun from to) account name version value is s a = read_now h from name version value (is ∙ ap account_name a)
-of_reading h (Half from to) account name version value is s a =
-    (was_read-on h (notes.ReadValue name version value ∷ []) from s, read_now h to name version value (is ∙ ap account_name a))
-of_reading h (Whole from to) account name version value is s a = tt
+of_reading : (h : List Note) (t : Transfer) (name : List ℕ) (version : ℕ) (value : List ℕ) → Seen h t → Asks name t → Seen (h ++ notes.ReadValue name version value ∷ []) (with_reading t version value)
+of_reading h Idle name version value s a = tt
+of_reading h (Begun from to) name version value s a = read_now h from name version value a
+of_reading h (Half from to) name version value s a = (was_read-on h (notes.ReadValue name version value ∷ []) from s, read_now h to name version value a)
+of_reading h (Whole from to) name version value s a = tt
 
-of_note : (h : List Note) (t : Transfer) (account reader : ℕ) (event : Event) (n : Note) → event ≡ Call reader (inputs.ReadName (account_name account)) → Seen h t → Asks account t → NotedAt event n
+of_note : (h : List Note) (t : Transfer) (asked : List ℕ) (reader : ℕ) (event : Event) (n : Note) → event ≡ Call reader (inputs.ReadName asked) → Seen h t → Asks asked t → NotedAt event n
     → Seen (h ++ n ∷ []) (with_note t n)
-of_note h t account reader event (notes.Begin txn payload) e s a at = tt
-of_note h t account reader event (notes.Take txn) e s a at = tt
-of_note h t account reader event (notes.ReadValue name version value) e s a at =
+of_note h t asked reader event (notes.Begin txn payload) e s a at = tt
+of_note h t asked reader event (notes.Take txn) e s a at = tt
+of_note h t asked reader event (notes.ReadValue name version value) e s a at =
     let both = sym e ∙ at.1 in
-    let is : name ≡ account_name account = cc both in
-    of_reading h t account name version value is s a
-of_note h t account reader event (notes.Decide txn decision) e s a at = tt
+    let is : asked ≡ name = cc both in
+    of_reading h t name version value s (subst (λ (x : List ℕ). Asks x t) is a)
+of_note h t asked reader event (notes.Decide txn decision) e s a at = tt
 
-heard_seen : (h ns : List Note) (t : Transfer) (account reader : ℕ) (event : Event) → event ≡ Call reader (inputs.ReadName (account_name account)) → Seen h t → Asks account t → (ns ≡ []) ⊎ OneAt event ns
+heard_seen : (h ns : List Note) (t : Transfer) (asked : List ℕ) (reader : ℕ) (event : Event) → event ≡ Call reader (inputs.ReadName asked) → Seen h t → Asks asked t → (ns ≡ []) ⊎ OneAt event ns
     → Seen (h ++ ns) (with_notes t ns)
-heard_seen h ns t account reader event e s a (inl none) = subst (λ (x : List Note). Seen (h ++ x) (with_notes t x)) (sym none) tt
-heard_seen h ns t account reader event e s a (inr one) =
-    subst (λ (x : List Note). Seen (h ++ x) (with_notes t x)) (sym one.is) (of_note h t account reader event one.note e s a one.fits)
+heard_seen h ns t asked reader event e s a (inl none) = subst (λ (x : List Note). Seen (h ++ x) (with_notes t x)) (sym none) tt
+heard_seen h ns t asked reader event e s a (inr one) =
+    subst (λ (x : List Note). Seen (h ++ x) (with_notes t x)) (sym one.is) (of_note h t asked reader event one.note e s a one.fits)
 
 still_seen : (h ns : List Note) (w : World) (doing : Doing) (t : Transfer) (event : Event) → event ≡ event_of w doing → Seen h t → IsFair h doing t → (ns ≡ []) ⊎ OneAt event ns
     → Seen (h ++ ns) (heard (is_read doing) ns t)
@@ -131,7 +129,7 @@ still_seen h ns w doings.TakeOver t event e s f one = seen_on h ns t s
 still_seen h ns w doings.SecondMove t event e s f one = seen_on h ns t s
 still_seen h ns w doings.Nudge t event e s f one = seen_on h ns t s
 still_seen h ns w (doings.Deliver number) t event e s f one = seen_on h ns t s
-still_seen h ns w (doings.Read account) t event e s f one = heard_seen h ns t account (reader_in w account) event e s f one
+still_seen h ns w (doings.Read name) t event e s f one = heard_seen h ns t name (reader_in w name) event e s f one
 still_seen h ns w (doings.Certify payload) t event e s f one = seen_on h ns t s
 
 -- ---- one event more

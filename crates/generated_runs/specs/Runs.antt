@@ -50,7 +50,7 @@ is_read doings.TakeOver = false
 is_read doings.SecondMove = false
 is_read doings.Nudge = false
 is_read (doings.Deliver number) = false
-is_read (doings.Read account) = true
+is_read (doings.Read name) = true
 is_read (doings.Certify payload) = false
 
 -- A reading that acts notes what was read, for the transfer; one that does not act notes nothing, and drops it.

@@ -12,7 +12,6 @@ use Rattle.protocol.specs.Coordination.{case_of}
 use Rattle.protocol.specs.Records.{NodeRecord, Coordinator}
 use Rattle.protocol.specs.Views.{view_of}
 use Rattle.protocol.specs.World.{World, node_of}
-use Rattle.generator.specs.Accounts.{account_name}
 use Rattle.generator.specs.declared.doings.Doing.{Doing}
 use Rattle.generator.specs.declared.doings.Doing.TheVariants as doings
 
@@ -33,9 +32,9 @@ abbrev pub known_leader : Option NodeRecord → ℕ → ℕ
 known_leader None shard = 9
 known_leader (Some node) shard = leader_of (view_of node.coordinator.views shard)
 
--- the leader that node 9 knows of an account's shard
-abbrev pub reader_in : World → ℕ → ℕ
-reader_in w account = known_leader (node_of w.nodes 9) (shard_of (account_name account) 3)
+-- the leader that node 9 knows of an object's shard
+abbrev pub reader_in : World → List ℕ → ℕ
+reader_in w name = known_leader (node_of w.nodes 9) (shard_of name 3)
 
 -- whether a row is undecided and the node has no case of its transaction
 abbrev pub is_orphan : Coordinator → Row → Bool
@@ -69,5 +68,5 @@ event_of w doings.TakeOver = taken_over (orphan_of (node_of w.nodes 5))
 event_of w doings.SecondMove = moved_by 6 2
 event_of w doings.Nudge = nudged
 event_of w (doings.Deliver number) = DeliverNumber number
-event_of w (doings.Read account) = Call (reader_in w account) (ReadName (account_name account))
+event_of w (doings.Read name) = Call (reader_in w name) (ReadName name)
 event_of w (doings.Certify payload) = Call 9 (Certify payload)

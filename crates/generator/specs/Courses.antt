@@ -9,7 +9,7 @@ use Rattle.generator.specs.declared.transfers.Transfer.{Transfer}
 use Rattle.generator.specs.declared.transfers.Transfer.TheVariants.{Idle, Begun, Half, Whole}
 use Rattle.generator.specs.declared.doings.Doing.{Doing}
 use Rattle.generator.specs.declared.doings.Doing.TheVariants.{Nudge, Deliver, Read, Certify}
-use Rattle.generator.specs.Accounts.{transfer_payload}
+use Rattle.generator.specs.Accounts.{account_name, transfer_payload}
 use Rattle.generator.specs.Choices.{fixed_at}
 use Rattle.generator.specs.Words.{words_from, word, later}
 
@@ -52,7 +52,7 @@ abbrev pub begins : CourseState → Chosen
 begins c =
     let from = first_account (word c.words) in
     let to = second_account from (word (later c.words)) in
-    does (Read from) (record c { words = later (later c.words); transfer = Begun from to })
+    does (Read (account_name from)) (record c { words = later (later c.words); transfer = Begun from to })
 
 -- both accounts were read: a word names the amount
 abbrev pub moves : CourseState → Reading → Reading → Chosen
@@ -61,8 +61,8 @@ moves c from to = does (Certify (transfer_payload from to (word c.words))) (reco
 -- the next step of a transfer: two readings, then the payload
 abbrev pub goes_on : CourseState → Transfer → Chosen
 goes_on c Idle = begins c
-goes_on c (Begun from to) = does (Read from) c
-goes_on c (Half from to) = does (Read to) c
+goes_on c (Begun from to) = does (Read (account_name from)) c
+goes_on c (Half from to) = does (Read (account_name to)) c
 goes_on c (Whole from to) = moves c from to
 
 -- the first of the queue is delivered

@@ -15,7 +15,7 @@ pub struct Reading {
 }
 
 /// The object of an account: acc0 to acc9.
-pub fn account_name(account: u8) -> Name
+pub(crate) fn account_name(account: u8) -> Name
     requires { account < 10 }
     ensures { result ≡ account_name account }
 {

@@ -4,7 +4,7 @@ ghost use Rattle.rand_pcg.specs.Lcg.{Lcg};
 ghost use Rattle.generator.specs.Courses.{first_course, chosen, fixed_or, with_word, by_word, goes_on, begins, moves, delivers_first, delivers_second, with_notes, numbers_behind};
 ghost use Rattle.generator.specs.Words.{word, later};
 
-use crate::accounts::{Reading, transfer_payload};
+use crate::accounts::{Reading, account_name, transfer_payload};
 use crate::doings::{Doing, fixed_at};
 use crate::transfers::Transfer;
 use rand_core::utils::NextWord;
@@ -99,11 +99,11 @@ impl Course {
             Transfer::Idle => Ok(self.begin()),
             Transfer::Begun { from, to } => {
                 self.transfer = Transfer::Begun { from, to };
-                Ok(Doing::Read(from))
+                Ok(Doing::Read(account_name(from)))
             }
             Transfer::Half { from, to } => {
                 self.transfer = Transfer::Half { from, to };
-                Ok(Doing::Read(to))
+                Ok(Doing::Read(account_name(to)))
             }
             Transfer::Whole { from, to } => self.finish(from, to),
         }
@@ -117,7 +117,7 @@ impl Course {
         let from = (self.draw() % 10) as u8;
         let to = ((u32::from(from) + 1 + self.draw() % 9) % 10) as u8;
         self.transfer = Transfer::Begun { from, to };
-        Doing::Read(from)
+        Doing::Read(account_name(from))
     }
 
     /// Both accounts were read: a word names the amount.

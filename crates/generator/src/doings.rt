@@ -2,7 +2,7 @@
 ghost use Rattle.std.specs.Prelude.{◌≡◌, ◌≤◌};
 ghost use Rattle.generator.specs.Choices.{fixed_at};
 
-use tcs_terms::Payload;
+use tcs_terms::{Name, Payload};
 
 /// What happens next. Which node reads, and whom node 5 takes over, is known only beside the run.
 #[derive(Debug, Drop)]
@@ -20,8 +20,8 @@ pub enum Doing {
     Nudge,
     /// The message of this number is delivered.
     Deliver(u32),
-    /// This account is read at the leader that node 9 knows of its shard.
-    Read(u8),
+    /// This object is read at the leader that node 9 knows of its shard.
+    Read(Name),
     /// Node 9 is given a payload.
     Certify(Payload),
 }

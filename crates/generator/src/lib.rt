@@ -9,7 +9,7 @@ mod doings;
 mod tests;
 mod transfers;
 
-pub use accounts::{Reading, account_name};
+pub use accounts::Reading;
 pub use course::Course;
 pub use doings::Doing;
 pub use transfers::Transfer;

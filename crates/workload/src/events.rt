@@ -1,11 +1,10 @@
 //! The event of what happens next.
-ghost use Rattle.std.specs.Prelude.{◌≡◌, ◌<◌, ℕ, false, IfOk};
+ghost use Rattle.std.specs.Prelude.{◌≡◌, false, IfOk};
 ghost use Rattle.protocol_laws.specs.Promises.{world_of};
-ghost use Rattle.generator.specs.declared.doings.Doing.TheVariants as doings;
 ghost use Rattle.generated_runs.specs.Sights.{event_of, taken_over, nudged, moved_by};
 
 use crate::sights::{CLIENT, TAKER, orphan_in, reader_in};
-use generator::{Doing, account_name};
+use generator::Doing;
 use std::alloc::Global;
 use tcs_laws::VoteGuard;
 use tcs_terms::{Event, Input, NodeId, OutOfMemory, ShardId, TxId, Wanted};
@@ -53,8 +52,7 @@ pub(crate) fn event_of<G: VoteGuard>(
     world: &World<G>,
     doing: Doing,
 ) -> Result<Event, OutOfMemory>
-    requires lives { world.now.spent ≡ false }
-    requires account { (account : ℕ) → doing ≡ doings.Read account → account < 10 }
+    requires { world.now.spent ≡ false }
     ensures { IfOk result (λ event. event ≡ event_of (world_of world.now.progress) doing) }
 {
     let event = match doing {
@@ -64,9 +62,9 @@ pub(crate) fn event_of<G: VoteGuard>(
         Doing::SecondMove => moved(alloc, 6, 2)?,
         Doing::Nudge => nudged(),
         Doing::Deliver(number) => Event::DeliverNumber(number),
-        Doing::Read(account) => Event::Call {
-            node: reader_in(world, account),
-            input: Input::ReadName(account_name(account)),
+        Doing::Read(name) => Event::Call {
+            node: reader_in(world, &name),
+            input: Input::ReadName(name),
         },
         Doing::Certify(payload) => Event::Call {
             node: CLIENT,

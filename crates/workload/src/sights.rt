@@ -1,15 +1,14 @@
 //! What the generator looks up in the world of its run.
-ghost use Rattle.std.specs.Prelude.{◌≡◌, ◌<◌, ◌&&◌, false, find, is_none, option_copied};
+ghost use Rattle.std.specs.Prelude.{◌≡◌, ◌&&◌, false, Some, find, is_none, option_copied};
 ghost use Rattle.std.specs.Option.{option_map};
 ghost use Rattle.protocol.specs.ClientRules.{is_undecided};
 ghost use Rattle.protocol.specs.World.{node_of};
 ghost use Rattle.protocol_laws.specs.Promises.{world_of};
 ghost use Rattle.generated_runs.specs.Sights.{waits_in, reader_in, orphan_of, is_orphan, known_leader, has_open_case};
 
-use generator::account_name;
 use node_core::Node;
 use tcs_laws::VoteGuard;
-use tcs_terms::{Mark, NodeId, Row, ShardId, TxId, shard_of};
+use tcs_terms::{Mark, Name, NodeId, Row, ShardId, TxId, shard_of};
 use world::World;
 
 /// The node that hands in the payloads, and that is nudged.
@@ -38,13 +37,11 @@ fn known_leader<G: VoteGuard>(node: &Node<G>, shard: ShardId) -> NodeId
     }
 }
 
-/// The leader that node 9 knows of an account's shard.
-pub(crate) fn reader_in<G: VoteGuard>(world: &World<G>, account: u8) -> NodeId
-    requires lives { world.now.spent ≡ false }
-    requires account { account < 10 }
-    ensures { result ≡ reader_in (world_of world.now.progress) account }
+/// The leader that node 9 knows of an object's shard.
+pub(crate) fn reader_in<G: VoteGuard>(world: &World<G>, name: &Name) -> NodeId
+    requires { world.now.spent ≡ false }
+    ensures { result ≡ reader_in (world_of world.now.progress) name.now }
 {
-    let name = account_name(account);
     match world.node(CLIENT) {
         None => CLIENT,
         Some(node) => known_leader(node, shard_of(name.bytes(), 3)),
