@@ -2,3 +2,4 @@ pub mod Noting
 pub mod Choosing
 pub mod Events
 pub mod Honest
+pub mod Promised
