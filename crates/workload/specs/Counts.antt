@@ -23,7 +23,7 @@ abbrev pub aborted_of : List Note → List TxId
 aborted_of h = first_of_each (filter_map abort_in h)
 
 -- events, messages, and the transactions that were begun, committed and aborted
-abbrev pub soak_line : ℕ → World → List ℕ
-soak_line events w =
+abbrev pub soak_text : ℕ → World → List ℕ
+soak_text events w =
     codes "soak " ++ decimal events ++ codes " " ++ decimal (length w.messages) ++ codes " " ++ decimal (length (begun_of w.history))
     ++ codes " " ++ decimal (length (order_of w.history)) ++ codes " " ++ decimal (length (aborted_of w.history)) ++ codes "\n"

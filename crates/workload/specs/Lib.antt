@@ -1,3 +1,5 @@
 pub mod Counts
-pub mod Texts
+pub mod Outcomes
+pub mod Standing
 pub mod Stops
+pub mod Texts
