@@ -33,7 +33,7 @@ Seen h (Whole from to) = WasRead h from × WasRead h to
 
 -- whether a read was made at that version
 abbrev pub was_told : List Note → ReadPart → Bool
-was_told h r = list_any (tells_version r.name r.version) h
+was_told h = λ (r : ReadPart). list_any (tells_version r.name r.version) h
 
 -- all that a payload reads was read
 abbrev pub IsHonest : List Note → Accesses → Type 0
@@ -84,7 +84,7 @@ pub record Stands (h : List Note) (x : Chosen) : Type 0 where
   pub seen : Seen h x.course.transfer
   pub fair : IsFair h x.doing x.course.transfer
 
-if_both : {A : Type 0} (P : A → Type 0) (b : Bool) {x y : A} → P x → P y → P (if b then x else y)
+pub if_both : {A : Type 0} (P : A → Type 0) (b : Bool) {x y : A} → P x → P y → P (if b then x else y)
 if_both P true p q = p
 if_both P false p q = q
 

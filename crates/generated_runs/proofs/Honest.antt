@@ -1,5 +1,5 @@
 -- Reads are honest in every generated run.
-use Rattle.std.proofs.Common.{◌≡◌, ℕ, zero, suc, ◌+◌, Bool, true, false, nat_lt, ◌==◌, List, [], ◌∷◌, ◌++◌, length, Option, Some, None, ◌⊎◌, inl, inr, refl, sym, ap, ◌∙◌, subst, append-nil, append_assoc}
+use Rattle.std.proofs.Common.{◌≡◌, ℕ, zero, suc, ◌+◌, Bool, true, false, nat_lt, ◌==◌, List, [], ◌∷◌, ◌++◌, length, eq-eqb, Option, Some, None, ◌⊎◌, inl, inr, refl, sym, ap, ◌∙◌, subst, append-nil, append_assoc}
 use Rattle.std.specs.List.{list_all, list_any}
 use Rattle.std.proofs.lemmas.Bool.{and_from, or_left, or_right}
 use Rattle.std.proofs.lemmas.List.Folds.{list_any-append}
@@ -46,7 +46,7 @@ all_more p past (x ∷ xs) y a h =
     (subst (λ zs. p (zs, y) ≡ true) (sym (append_assoc past (x ∷ []) xs)) h))
 
 honest_on : (h : List Note) (n : Note) → is_honest h ≡ true → honest_after h n ≡ true → is_honest (h ++ n ∷ []) ≡ true
-honest_on h n a b = all_more (λ e. honest_after e.0 e.1) [] h n a b
+honest_on h n a b = all_more {X = Note} (λ e. honest_after e.0 e.1) [] h n a b
 
 was_read-on : (h more : List Note) (r : Reading) → WasRead h r → WasRead (h ++ more) r
 was_read-on h more r a =
@@ -65,7 +65,7 @@ read_now : (h : List Note) (account : ℕ) (name : List ℕ) (version : ℕ) (va
 read_now h account name version value e =
     let p = tells_version (account_name account) version in
     let n = notes.ReadValue name version value in
-    let told : p n ≡ true = and_from (same_name name (account_name account)) (version == version) (subst (λ x. same_name x (account_name account) ≡ true) (sym e) (same_name-self (account_name account))) (grind (arith)) in
+    let told : p n ≡ true = and_from (same_name name (account_name account)) (version == version) (subst (λ x. same_name x (account_name account) ≡ true) (sym e) (same_name-self (account_name account))) (eq-eqb version version refl) in
     list_any-append p h (n ∷ []) ∙ or_right (list_any p h) (list_any p (n ∷ [])) (or_left (p n) false told)
 
 -- ---- what was done is told by the event

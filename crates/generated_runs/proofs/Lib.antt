@@ -3,3 +3,4 @@ pub mod Choosing
 pub mod Events
 pub mod Honest
 pub mod Promised
+pub mod Queued

@@ -1,5 +1,5 @@
 //! What holds of every generated run.
-ghost use Rattle.std.specs.Prelude.{◌≡◌, ℕ, true};
+ghost use Rattle.std.specs.Prelude.{◌≡◌, ℕ, ◌<◌, length, true};
 ghost use Rattle.cert_serial.specs.Serial.{serial};
 ghost use Rattle.protocol.specs.Limit.{limited_run};
 ghost use Rattle.protocol.specs.OneCopy.{is_honest, is_one_copy};
@@ -11,6 +11,11 @@ ghost use Rattle.generated_runs.specs.Runs.{generated, events_until};
 /// The run that the generator steps is the run of the events that it chose.
 pub fn runs_its_events()
     ensures { (seed count place : ℕ) → (generated seed count place).progress ≡ limited_run serial setup (events_until seed count place) }
+{}
+
+/// While numbers are queued, messages were sent.
+pub fn queued_are_sent()
+    ensures { (seed count place : ℕ) → 0 < length (generated seed count place).course.queue → 0 < length (world_of (generated seed count place).progress).messages }
 {}
 
 /// Reads are honest: before a transaction begins, each object that it reads was read at that version.
