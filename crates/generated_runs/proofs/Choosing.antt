@@ -1,5 +1,5 @@
 -- What is chosen reads what the transfer asks for, and hands in what was read.
-use Rattle.std.proofs.Common.{◌≡◌, ℕ, ◌+◌, ◌-◌, ◌%◌, ◌^◌, Bool, true, false, ◌&&◌, if◌then◌else◌, List, [], ◌∷◌, map, Option, Some, None, refl, sym, ap, ◌∙◌, subst}
+use Rattle.std.proofs.Common.{◌≡◌, ℕ, ◌+◌, ◌-◌, ◌*◌, ◌/◌, ◌%◌, ◌^◌, ◌==◌, nat_le, Bool, true, false, ◌&&◌, ◌||◌, if◌then◌else◌, length, List, [], ◌∷◌, map, Option, Some, None, refl, sym, ap, ◌∙◌, subst}
 use Rattle.std.specs.List.{list_all, list_any}
 use Rattle.std.proofs.lemmas.Bool.{and_from}
 use Rattle.tcs_terms.specs.declared.inputs.Note.{Note}
@@ -16,7 +16,7 @@ use Rattle.generator.specs.declared.doings.Doing.{Doing}
 use Rattle.generator.specs.declared.doings.Doing.TheVariants as doings
 use Rattle.generator.specs.Accounts.{account_name, balance_bytes, balance_of, amount_of, part_of, both_read, moved, transfer_payload}
 use Rattle.generator.specs.Choices.{fixed_at}
-use Rattle.generator.specs.Courses.{CourseState, Chosen, does, goes_on, delivers_first, delivers_second, by_word, with_word, fixed_or, chosen}
+use Rattle.generator.specs.Courses.{CourseState, Chosen, does, is_collecting, goes_on, delivers_first, delivers_second, by_word, with_word, fixed_or, chosen}
 use Rattle.generator.specs.Words.{word, later}
 
 -- ---- what was read
@@ -41,10 +41,10 @@ IsHonest h p = list_all (was_told h) p.reads ≡ true
 
 put_reads : (name value : List ℕ) (ps : List Part) → reads (with_put name value ps) ≡ reads ps
 put_reads name value [] = refl
-put_reads name value (p ∷ ps) = go (same_name p.name name) where
-  go : (b : Bool) → reads (if b then record p { put = Some value } ∷ ps else p ∷ with_put name value ps) ≡ reads (p ∷ ps)
-  go true = refl
-  go false = ap (λ (rs : List ReadPart). read_of p ∷ rs) (put_reads name value ps)
+put_reads name value (p ∷ ps) = go (same_name p.name name) (put_reads name value ps) where
+  go : (b : Bool) → reads (with_put name value ps) ≡ reads ps → reads (if b then record p { put = Some value } ∷ ps else p ∷ with_put name value ps) ≡ reads (p ∷ ps)
+  go true same = refl
+  go false same = ap (λ (rs : List ReadPart). read_of p ∷ rs) same
 
 both_told : (h : List Note) (from to : Reading) → WasRead h from → WasRead h to → list_all (was_told h) (reads (both_read from to)) ≡ true
 both_told h from to a b = go (name_before (account_name from.account) (account_name to.account)) where
@@ -84,7 +84,7 @@ pub record Stands (h : List Note) (x : Chosen) : Type 0 where
   pub seen : Seen h x.course.transfer
   pub fair : IsFair h x.doing x.course.transfer
 
-pub if_both : {A : Type 0} (P : A → Type 0) (b : Bool) {x y : A} → P x → P y → P (if b then x else y)
+if_both : {A : Type 0} (P : A → Type 0) (b : Bool) {x y : A} → P x → P y → P (if b then x else y)
 if_both P true p q = p
 if_both P false p q = q
 
@@ -103,21 +103,30 @@ second-stands h c [] s = record { seen = s; fair = tt }
 second-stands h c (n ∷ []) s = record { seen = s; fair = tt }
 second-stands h c (m ∷ n ∷ ns) s = record { seen = s; fair = tt }
 
+-- what holds of each choice by a word holds of the one that is made
+pub by_word-each : (P : Chosen → Type 0) (waits : Bool) (sent w : ℕ) (c : CourseState) → P (does doings.Nudge c) → P (goes_on c c.transfer) → P (does (doings.Deliver (1 + w / 16 % sent)) c)
+    → P (delivers_second c c.queue) → P (delivers_first c c.queue) → P (by_word waits sent w c)
+by_word-each P waits sent w c nudge transfer repeat second first =
+    if_both P ((length c.queue == 0) && waits && (w % 2 == 0)) nudge
+    (if_both P (is_collecting c.transfer || (length c.queue == 0) || (w % 16 == 0)) transfer
+    (if_both P (w % 16 == 1) repeat (if_both P ((w % 16 == 2) && nat_le 2 (length c.queue)) second first)))
+
 by_word-stands : (h : List Note) (waits : Bool) (sent w : ℕ) (c : CourseState) → Seen h c.transfer → Stands h (by_word waits sent w c)
 by_word-stands h waits sent w c s =
-    if_both (Stands h) _ (record { seen = s; fair = tt })
-    (if_both (Stands h) _ (goes_on-stands h c c.transfer refl s)
-    (if_both (Stands h) _ (record { seen = s; fair = tt })
-    (if_both (Stands h) _ (second-stands h c c.queue s) (first-stands h c c.queue s))))
+    by_word-each (Stands h) waits sent w c (record { seen = s; fair = tt }) (goes_on-stands h c c.transfer refl s) (record { seen = s; fair = tt })
+    (second-stands h c c.queue s) (first-stands h c c.queue s)
 
 -- what stands at a fixed place reads nothing and hands in nothing
 abbrev pub IsFixed : Option Doing → Type 0
 IsFixed None = Unit {0}
 IsFixed (Some doing) = (h : List Note) (t : Transfer) → IsFair h doing t
 
+fixed-each : (P : Option Doing → Type 0) (count place : ℕ) → P (Some doings.Stop) → P (Some doings.FirstMove) → P (Some doings.TakeOver) → P (Some doings.SecondMove) → P None → P (fixed_at count place)
+fixed-each P count place stop first taken second none =
+    if_both P (place == count / 3) stop (if_both P (place == count / 3 + 1) first (if_both P (place == count / 2) taken (if_both P (place == 2 * count / 3) second none)))
+
 fixed-is : (count place : ℕ) → IsFixed (fixed_at count place)
-fixed-is count place =
-    if_both IsFixed _ (λ h t. tt) (if_both IsFixed _ (λ h t. tt) (if_both IsFixed _ (λ h t. tt) (if_both IsFixed _ (λ h t. tt) tt)))
+fixed-is count place = fixed-each IsFixed count place (λ h t. tt) (λ h t. tt) (λ h t. tt) (λ h t. tt) tt
 
 fixed_or-stands : (h : List Note) (fixed : Option Doing) (waits : Bool) (sent : ℕ) (c : CourseState) → IsFixed fixed → Seen h c.transfer → Stands h (fixed_or fixed waits sent c)
 fixed_or-stands h None waits sent c f s = by_word-stands h waits sent (word c.words) (record c { words = later c.words }) s

@@ -8,11 +8,11 @@ use Rattle.generated_runs.specs.Setup.{setup}
 use Rattle.generated_runs.specs.Runs.{generated, events_until, next_event, next_step, serial_step}
 
 step_is : (p : Progress) (event : Event) → serial_step p event ≡ limited_step serial setup.version p event
-unfolding serial_step, setup
+unfolding serial_step setup
 step_is p event = refl
 
 pub run_is : (seed count place : ℕ) → (generated seed count place).progress ≡ limited_run serial setup (events_until seed count place)
-unfolding generated, events_until, limited_run
+unfolding generated events_until limited_run
 run_is seed count zero = refl
 run_is seed count (suc place) =
     let event = next_event count (suc place) (generated seed count place) in

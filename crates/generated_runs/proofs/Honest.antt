@@ -144,7 +144,7 @@ stepped before p event doing c = record { course = with_answer before (is_read d
 
 holds_stepped : (before : ℕ) (p : Progress) (event : Event) (doing : Doing) (c : CourseState) → event ≡ event_of (world_of p) doing → is_honest (world_of p).history ≡ true
     → Seen (world_of p).history c.transfer → IsFair (world_of p).history doing c.transfer → Holds (stepped before p event doing c)
-unfolding serial_step, limited_step
+unfolding serial_step limited_step
 holds_stepped before (Live w count bytes) event doing c e honest seen fair =
     let h = world_step serial 1 w event in
     let adds = event-adds serial 1 w event in
@@ -165,6 +165,6 @@ holds_after count place s holds =
     holds_stepped (length w.messages) s.progress (next_event count place s) x.doing x.course refl holds.honest stands.seen stands.fair
 
 pub always_honest : (seed count place : ℕ) → Holds (generated seed count place)
-unfolding generated, first_world
+unfolding generated first_world
 always_honest seed count zero = record { honest = refl; seen = tt }
 always_honest seed count (suc place) = holds_after count (suc place) (generated seed count place) (always_honest seed count place)

@@ -17,7 +17,7 @@ use Rattle.generator.specs.Courses.{CourseState, Chosen, goes_on, delivers_first
 use Rattle.generator.specs.Words.{word, later}
 use Rattle.generated_runs.specs.Sights.{waits_in}
 use Rattle.generated_runs.specs.Runs.{State, next, next_event, is_read, serial_step, with_answer, after, generated}
-use Rattle.generated_runs.proofs.Choosing.{if_both}
+use Rattle.generated_runs.proofs.Choosing.{by_word-each}
 
 -- ---- what is chosen makes the queue no longer
 
@@ -40,10 +40,7 @@ second-within n c (k ∷ []) q l = l
 second-within n c (k ∷ m ∷ ms) q l = omega (arith, q)
 
 by_word-within : (n : ℕ) (waits : Bool) (sent w : ℕ) (c : CourseState) → length c.queue ≤ n → Within n (by_word waits sent w c)
-by_word-within n waits sent w c l =
-    if_both (Within n) _ l
-    (if_both (Within n) _ (goes_on-within n c c.transfer l)
-    (if_both (Within n) _ l (if_both (Within n) _ (second-within n c c.queue l l) (first-within n c c.queue l l))))
+by_word-within n waits sent w c l = by_word-each (Within n) waits sent w c l (goes_on-within n c c.transfer l) l (second-within n c c.queue l l) (first-within n c c.queue l l)
 
 fixed_or-within : (n : ℕ) (fixed : Option Doing) (waits : Bool) (sent : ℕ) (c : CourseState) → length c.queue ≤ n → Within n (fixed_or fixed waits sent c)
 fixed_or-within n None waits sent c l = by_word-within n waits sent (word c.words) (record c { words = later c.words }) l
@@ -59,7 +56,7 @@ IsSent s = 0 < length s.course.queue → 0 < length (world_of s.progress).messag
 
 sent_stepped : (p : Progress) (event : Event) (doing : Doing) (c : CourseState) → (0 < length c.queue → 0 < length (world_of p).messages)
     → IsSent (record { course = with_answer (length (world_of p).messages) (is_read doing) (serial_step p event).answer c; progress = (serial_step p event).after })
-unfolding serial_step, limited_step
+unfolding serial_step limited_step
 sent_stepped (Live w count bytes) event doing c sent =
     let h = world_step serial 1 w event in
     let adds = event-adds serial 1 w event in

@@ -6,7 +6,7 @@ use Rattle.tcs_terms.specs.Setups.{Deployment}
 
 -- the first configuration of a shard: its leader and the node behind it
 abbrev pub config_of : ℕ → ℕ → Membership
-config_of shard leader = record { shard = shard; epoch = 1; members = leader ∷ leader + 1 ∷ []; leader = leader; by = 0 }
+config_of shard leader = record { shard = shard; epoch = 1; members = leader ∷ (leader + 1) ∷ []; leader = leader; by = 0 }
 
 unfoldable pub setup : Deployment
 setup = record {

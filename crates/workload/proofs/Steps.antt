@@ -27,7 +27,7 @@ pub record Taken (p : Progress) (s : Step) (told : Happening) : Type 0 where
   pub sent_is : told.sent ≡ length sent
 
 pub taken : (p : Progress) (e : Event) (told : Happening) → Tells (Ok told) (serial_step p e).answer → Taken p (serial_step p e) told
-unfolding serial_step, limited_step
+unfolding serial_step limited_step
 taken (Live w count bytes) e told =
     let h = world_step serial 1 w e in
     let adds = event-adds serial 1 w e in
