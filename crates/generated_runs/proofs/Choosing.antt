@@ -1,5 +1,5 @@
 -- What is chosen reads what the transfer asks for, and hands in what was read.
-use Rattle.std.proofs.Common.{◌≡◌, ℕ, ◌+◌, ◌-◌, ◌*◌, ◌/◌, ◌%◌, ◌^◌, ◌==◌, nat_le, Bool, true, false, ◌&&◌, ◌||◌, if◌then◌else◌, length, List, [], ◌∷◌, map, Option, Some, None, refl, sym, ap, ◌∙◌, subst}
+use Rattle.std.proofs.Common.{◌≡◌, ℕ, ◌+◌, ◌-◌, ◌*◌, ◌/◌, ◌%◌, ◌^◌, ◌==◌, nat_le, Bool, true, false, ◌&&◌, ◌||◌, if◌then◌else◌, length, List, [], ◌∷◌, Option, Some, None, refl, sym, ap, ◌∙◌, subst}
 use Rattle.std.specs.List.{list_all, list_any}
 use Rattle.std.proofs.lemmas.Bool.{and_from}
 use Rattle.tcs_terms.specs.declared.inputs.Note.{Note}
@@ -8,15 +8,15 @@ use Rattle.tcs_terms.specs.Order.{name_before}
 use Rattle.tcs_terms.specs.Payloads.{Accesses, same_name}
 use Rattle.protocol.specs.OneCopy.{tells_version}
 use Rattle.store_client.specs.declared.parts.Part.{Part}
-use Rattle.store_client.specs.Parts.{with_read, with_put, reads, read_of}
+use Rattle.store_client.specs.Parts.{with_put, reads, read_of}
 use Rattle.generator.specs.declared.accounts.Reading.{Reading}
 use Rattle.generator.specs.declared.transfers.Transfer.{Transfer}
 use Rattle.generator.specs.declared.transfers.Transfer.TheVariants.{Idle, Begun, Half, Whole}
 use Rattle.generator.specs.declared.doings.Doing.{Doing}
 use Rattle.generator.specs.declared.doings.Doing.TheVariants as doings
-use Rattle.generator.specs.Accounts.{account_name, balance_bytes, balance_of, amount_of, part_of, both_read, moved, transfer_payload}
+use Rattle.generator.specs.Accounts.{account_name, balance_bytes, balance_of, amount_of, part_of, both_read, transfer_payload}
 use Rattle.generator.specs.Choices.{fixed_at}
-use Rattle.generator.specs.Courses.{CourseState, Chosen, does, is_collecting, goes_on, delivers_first, delivers_second, by_word, with_word, fixed_or, chosen}
+use Rattle.generator.specs.Courses.{CourseState, Chosen, does, is_collecting, goes_on, delivers_first, delivers_second, by_word, fixed_or, chosen}
 use Rattle.generator.specs.Words.{word, later}
 
 -- ---- what was read

@@ -1,11 +1,11 @@
 -- The events of a generated run: it is the run of them.
-use Rattle.std.proofs.Common.{◌≡◌, ℕ, zero, suc, ◌∷◌, [], ◌++◌, refl, sym, ap, ◌∙◌}
+use Rattle.std.proofs.Common.{◌≡◌, ℕ, zero, suc, refl, sym, ap, ◌∙◌}
 use Rattle.cert_serial.specs.Serial.{serial}
 use Rattle.tcs_terms.specs.declared.inputs.Event.{Event}
 use Rattle.protocol.specs.Limit.{Progress, Step, limited_run, limited_step}
 use Rattle.protocol_laws.proofs.RunsOn.{limited_run-on}
 use Rattle.generated_runs.specs.Setup.{setup}
-use Rattle.generated_runs.specs.Runs.{generated, events_until, next_event, next_step, serial_step}
+use Rattle.generated_runs.specs.Runs.{generated, events_until, next_event, serial_step}
 
 step_is : (p : Progress) (event : Event) → serial_step p event ≡ limited_step serial setup.version p event
 unfolding serial_step setup

@@ -1,5 +1,5 @@
 -- Reads are honest in every generated run.
-use Rattle.std.proofs.Common.{◌≡◌, ℕ, zero, suc, ◌+◌, Bool, true, false, nat_lt, ◌==◌, List, [], ◌∷◌, ◌++◌, length, eq-eqb, Option, Some, None, ◌⊎◌, inl, inr, refl, sym, ap, ◌∙◌, subst, append-nil, append_assoc}
+use Rattle.std.proofs.Common.{◌≡◌, ℕ, zero, suc, ◌+◌, Bool, true, false, nat_lt, ◌==◌, List, [], ◌∷◌, ◌++◌, length, eq-eqb, Option, Some, None, ◌⊎◌, inl, inr, refl, sym, ◌∙◌, subst, append-nil, append_assoc}
 use Rattle.std.specs.List.{list_all, list_any}
 use Rattle.std.proofs.lemmas.Bool.{and_from, or_left, or_right}
 use Rattle.std.proofs.lemmas.List.Folds.{list_any-append}
@@ -12,11 +12,11 @@ use Rattle.tcs_terms.specs.declared.inputs.Note.{Note}
 use Rattle.tcs_terms.specs.declared.inputs.Note.TheVariants as notes
 use Rattle.tcs_terms.specs.declared.ids.TxId.{TxId}
 use Rattle.tcs_terms.specs.Payloads.{Accesses, same_name}
-use Rattle.protocol.specs.Limit.{Progress, Answer, Step, frame_bytes, frame_limit}
+use Rattle.protocol.specs.Limit.{Progress, Step, frame_bytes, frame_limit}
 use Rattle.protocol.specs.Limit.Progress.{Live, Ended}
 use Rattle.protocol.specs.OneCopy.{is_honest, honest_after, tells_version}
-use Rattle.protocol.specs.Past.{after_past, with_past}
-use Rattle.protocol.specs.World.{World, Happening, first_world, node_of, world_step}
+use Rattle.protocol.specs.Past.{after_past}
+use Rattle.protocol.specs.World.{World, first_world, node_of, world_step}
 use Rattle.protocol.specs.Limit.{limited_step}
 use Rattle.protocol_laws.specs.Promises.{world_of}
 use Rattle.protocol_laws.proofs.Guards.{by_guard}
@@ -28,12 +28,11 @@ use Rattle.generator.specs.declared.transfers.Transfer.TheVariants.{Idle, Begun,
 use Rattle.generator.specs.declared.doings.Doing.{Doing}
 use Rattle.generator.specs.declared.doings.Doing.TheVariants as doings
 use Rattle.generator.specs.Accounts.{account_name}
-use Rattle.generator.specs.Courses.{CourseState, Chosen, with_note, with_notes, with_reading, reading}
-use Rattle.generated_runs.specs.Setup.{setup}
+use Rattle.generator.specs.Courses.{CourseState, with_note, with_notes, with_reading, reading}
 use Rattle.generated_runs.specs.Sights.{event_of, waits_in, reader_in, taken_over, orphan_of}
-use Rattle.generated_runs.specs.Runs.{State, first_state, next, next_event, serial_step, is_read, heard, with_answer, after, generated}
+use Rattle.generated_runs.specs.Runs.{State, next, next_event, serial_step, is_read, heard, with_answer, after, generated}
 use Rattle.generated_runs.proofs.Noting.{NotedAt, OneAt, event_notes}
-use Rattle.generated_runs.proofs.Choosing.{WasRead, Seen, IsHonest, IsFair, Asks, Stands, chosen_stands}
+use Rattle.generated_runs.proofs.Choosing.{WasRead, Seen, IsHonest, IsFair, Asks, chosen_stands}
 
 -- ---- one note more
 

@@ -1,5 +1,5 @@
 -- While numbers are queued, messages were sent.
-use Rattle.std.proofs.Common.{◌≡◌, ℕ, zero, suc, ◌+◌, ◌<◌, ◌≤◌, Bool, nat_lt, List, [], ◌∷◌, ◌++◌, length, length-append, Option, Some, None, refl, ap, ◌∙◌, arith}
+use Rattle.std.proofs.Common.{◌≡◌, ℕ, zero, suc, ◌+◌, ◌<◌, ◌≤◌, Bool, nat_lt, List, [], ◌∷◌, length, length-append, Option, Some, None, ap, ◌∙◌, arith}
 use Rattle.std.proofs.lemmas.List.FromFn.{length-range_with_len}
 use Rattle.cert_serial.specs.Serial.{serial}
 use Rattle.tcs_terms.specs.declared.inputs.Event.{Event}
@@ -65,9 +65,9 @@ sent_stepped (Live w count bytes) event doing c sent =
     (λ goes queued. grows (length c.queue) (length w.messages) (length h.sent) _ (length h.after.messages) sent
     (length-append c.queue _ ∙ ap (λ n. length c.queue + n) (length-range_with_len (length w.messages + 1) (length h.sent)))
     (ap length adds.messages ∙ length-append w.messages h.sent) queued) where
-  grows : (queue messages more queue' messages' : ℕ) → (0 < queue → 0 < messages) → queue' ≡ queue + more → messages' ≡ messages + more → 0 < queue' → 0 < messages'
-  grows zero messages more queue' messages' old q m now = omega (arith, q, m, now)
-  grows (suc queue) messages more queue' messages' old q m now = omega (arith, m, old (omega arith))
+      grows : (queue messages more queue' messages' : ℕ) → (0 < queue → 0 < messages) → queue' ≡ queue + more → messages' ≡ messages + more → 0 < queue' → 0 < messages'
+      grows zero messages more queue' messages' old q m now = omega (arith, q, m, now)
+      grows (suc queue) messages more queue' messages' old q m now = omega (arith, m, old (omega arith))
 sent_stepped (Ended w count bytes) event doing c sent = sent
 
 sent_after : (count place : ℕ) (s : State) → IsSent s → IsSent (after count place s)
