@@ -1,8 +1,7 @@
 //! How many transactions notes begin and abort.
-ghost use Rattle.std.specs.Prelude.{◌≡◌, length, filter_map, IfOk, OnOk};
-ghost use Rattle.judge.specs.Verdicts.{abort_in};
+ghost use Rattle.std.specs.Prelude.{◌≡◌, length, IfOk, OnOk};
 ghost use Rattle.protocol_laws.specs.Growth.{with_commit};
-ghost use Rattle.workload.specs.Counts.{begun_in, begun_of, aborted_of};
+ghost use Rattle.workload.specs.Counts.{abort_in, begun_in, begun_of, aborted_of};
 
 use indexmap::IndexSet;
 use std::alloc::Global;

@@ -10,8 +10,6 @@ mod setups;
 mod sights;
 mod soaking;
 mod stops;
-#[cfg(test)]
-mod tests;
 
 pub use generating::generate;
 pub use soaking::soak;

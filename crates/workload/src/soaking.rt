@@ -25,12 +25,7 @@ use world::World;
 /// # Errors
 /// `Full` where the frames of the run would pass the limit with an event, with the sum of their bytes; `WriteFault` only
 /// where the sink counted a fault.
-pub fn soak<K: Sink>(
-    alloc: Global,
-    seed: u64,
-    count: u32,
-    output: &mut K,
-) -> Result<(), GenStop>
+pub fn soak<K: Sink>(alloc: Global, seed: u64, count: u32, output: &mut K) -> Result<(), GenStop>
     requires least { 30 ≤ count }
     requires most { count ≤ 50000 }
     ensures whole { (before : List ℕ) → K.held output.old ≡ Some before → OnOk result (Tells seed count before (K.held output.new)) }

@@ -1,3 +1,0 @@
-use crate::{generate, soak};
-use std::test::Fail;
-use tcs_io::MemSink;
