@@ -1,5 +1,0 @@
-pub mod Counts
-pub mod Outcomes
-pub mod Standing
-pub mod Stops
-pub mod Texts
