@@ -1,0 +1,4 @@
+pub mod Accounts
+pub mod Words
+pub mod Choices
+pub mod Courses
