@@ -1,5 +1,5 @@
 -- Sums of amounts, by counter.
-use Rattle.std.specs.Prelude.{◌≡◌, ℕ, ◌≤◌, List, Option}
+use Rattle.std.specs.Prelude.{◌≡◌, ℕ, ◌<◌, ◌^◌, List, Option}
 use Rattle.std.specs.BTreeMap.{BTreeMap, get}
 use Rattle.std.specs.Cmp.Lexicographic.{slice_cmp}
 use Rattle.std.specs.Option.{unwrap_or}
@@ -20,10 +20,10 @@ name_cmp a b = slice_cmp nat_cmp a b
 abbrev pub sum_at : Sums → List ℕ → Option ℕ
 sum_at sums name = get name_cmp sums name
 
--- Sums with the amounts of some writes more. A sum is exact as long as it was at most 2 ^ 63.
+-- Sums with the amounts of some writes more: exact as long as the sum is below 2 ^ 64.
 abbrev pub AddsWrites : Sums → Sums → List WritePart → Type 0
 AddsWrites before after writes =
-    (name : List ℕ) → unwrap_or (sum_at before name) 0 ≤ 9223372036854775808 → sum_at after name ≡ plus (sum_at before name) (added_by writes name)
+    (name : List ℕ) → unwrap_or (plus (sum_at before name) (added_by writes name)) 0 < 2 ^ 64 → sum_at after name ≡ plus (sum_at before name) (added_by writes name)
 
 -- the sums over some payloads: of each counter to which one adds, and of no other object
 abbrev pub AreSums : Sums → List Accesses → Type 0

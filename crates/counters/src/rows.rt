@@ -1,5 +1,6 @@
 //! What a node has of a counter, by its committed rows.
-ghost use Rattle.std.specs.Prelude.{◌≡◌, ◌≤◌, length, IfOk, cons_option, OnOk, List, ◌++◌, ◌<◌, []};
+ghost use Rattle.std.specs.Prelude.{◌≡◌, ◌≤◌, ◌<◌, ◌++◌, [], List, length, IfOk, OnOk};
+ghost use Rattle.std.specs.List.{cons_option};
 ghost use Rattle.std.specs.Option.{option_copied, option_map, unwrap_or};
 ghost use Rattle.tcs_terms.specs.Payloads.{Accesses};
 ghost use Rattle.counters.specs.declared.limits.TheConstants.{MAX_PAYLOADS};
