@@ -1,3 +1,3 @@
 pub mod NamesApart
 pub mod Adding
-pub mod Rows
+pub mod CommittedRows
