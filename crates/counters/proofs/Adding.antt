@@ -153,7 +153,7 @@ pub total_more : (ps : List Accesses) (p : Accesses) (name : List ℕ) → total
 total_more ps p name = ap (λ o. unwrap_or o 0) (sum_more ps p name) ∙ plus_worth (sum_of ps name) (added_by p.writes name)
 
 pub total_few : (ps : List Accesses) (name : List ℕ) → total_of ps name ≤ length ps * MAX_AMOUNT
-total_few ps name = go None ps
+total_few ps name = let all = go None ps in omega arith
   where
     go : (sum : Option ℕ) (xs : List Accesses) → unwrap_or (fold (λ s x. plus s (added_by x.writes name)) sum xs) 0 ≤ unwrap_or sum 0 + length xs * MAX_AMOUNT
     go sum [] = omega arith

@@ -51,9 +51,10 @@ fn add_row(sums: &mut Sums, row: &Row) -> Result<(), OutOfMemory>
         → AreSums sums.new (before ++ cons_option (payload_marked row.now.mark row.now.entry.payload) [])) }
 {
     match committed(row) {
-        Some(payload) => add(sums, payload),
-        None => Ok(()),
+        Some(payload) => add(sums, payload)?,
+        None => {}
     }
+    Ok(())
 }
 
 /// The sums of the committed rows of a node of at most 4,096 rows.

@@ -50,5 +50,6 @@ pub fn add(sums: &mut Sums, payload: &Payload) -> Result<(), OutOfMemory>
     ensures { OnOk result ((before : List Accesses) → length before < MAX_PAYLOADS → AreSums sums.old before
         → AreSums sums.new (before ++ payload.now ∷ [])) }
 {
-    add_writes(sums, payload.writes())
+    add_writes(sums, payload.writes())?;
+    Ok(())
 }
