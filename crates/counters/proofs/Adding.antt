@@ -68,7 +68,7 @@ adds_one before after w counter updates name fits = updates.0 name ∙ (elim (ca
         → Some (min (unwrap_or (sum_at before w.name) 0 + amount_of w.value) (2 ^ 64 - 1)) ≡ plus (sum_at before name) (added_by (w ∷ []) name)
     own same =
         let whole : plus (sum_at before name) (added_by (w ∷ []) name) ≡ Some (unwrap_or (sum_at before name) 0 + amount_of w.value)
-            = ap (plus (sum_at before name)) (added_own w name counter same) ∙ plus_some (sum_at before name) (amount_of w.value) in
+        = ap (plus (sum_at before name)) (added_own w name counter same) ∙ plus_some (sum_at before name) (amount_of w.value) in
         let small : unwrap_or (sum_at before name) 0 + amount_of w.value < 2 ^ 64 = subst (λ o. unwrap_or o 0 < 2 ^ 64) whole fits in
         ap (λ n. Some (min (unwrap_or (sum_at before n) 0 + amount_of w.value) (2 ^ 64 - 1))) (same_text w.name name (sym same))
         ∙ ap (λ n. Some n) (omega arith) ∙ sym whole

@@ -5,6 +5,8 @@ mod amounts;
 mod limits;
 mod rows;
 mod sums;
+#[cfg(test)]
+mod tests;
 
 pub use amounts::{amount, is_counter};
 pub use limits::{MAX_AMOUNT, MAX_PAYLOADS};

@@ -14,9 +14,9 @@ loop-row-preserved c =
     let r = c.row-item.result in
     let within : i < length rows = omega arith in
     let more : node_total (take (i + 1) rows) name ≡ node_total (take i rows) name + c.row_amount-total.result
-        = ap (λ (ps : List Accesses). total_of ps name) (committed_more rows i r within c.row-item.is)
-        ∙ total_with (committed_in (take i rows)) (payload_at r) name
-        ∙ ap (λ n. node_total (take i rows) name + n) (sym c.row_amount-total.ensures) in
+    = ap (λ (ps : List Accesses). total_of ps name) (committed_more rows i r within c.row-item.is)
+    ∙ total_with (committed_in (take i rows)) (payload_at r) name
+    ∙ ap (λ n. node_total (take i rows) name + n) (sym c.row_amount-total.ensures) in
     let few : c.row_amount-total.result ≤ MAX_AMOUNT = rw c.row_amount-total.ensures (row_few (payload_at r) name) in
     let before = c.loop-row.invariant.1 in
     (ap (λ n. n + c.row_amount-total.result) c.loop-row.invariant.0 ∙ sym more, omega arith)
