@@ -5,6 +5,7 @@ mod amounts;
 mod limits;
 mod rows;
 mod sums;
+mod totals;
 #[cfg(test)]
 mod tests;
 
@@ -12,3 +13,4 @@ pub use amounts::{amount, is_counter};
 pub use limits::{MAX_AMOUNT, MAX_PAYLOADS};
 pub use rows::{node_total, sums_of_rows};
 pub use sums::{Sums, add};
+pub use totals::Totals;

@@ -14,7 +14,7 @@ use tcs_terms::{Name, OutOfMemory, Payload, WritePart};
 pub type Sums = BTreeMap<Name, u64>;
 
 /// The sum that is kept of a counter, 0 where none is.
-fn sum_at(sums: &Sums, name: &Name) -> u64
+pub(crate) fn sum_at(sums: &Sums, name: &Name) -> u64
     ensures { result ≡ unwrap_or (sum_at sums.now name.now) 0 }
 {
     match sums.get(name) {
