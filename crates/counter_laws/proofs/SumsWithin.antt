@@ -107,12 +107,12 @@ module _ (name : List ℕ) where
         go (Some q) is =
             let here = within r q (inl refl) is in
             let rest = rows_within rs (without r.entry.txn ts) order.1 (λ x p s e.
-                let w = within x p (inr s) e in
-                record {
-                  there = still_there r.entry.txn x.entry.txn ts
-                      (order.0.apart x.entry (StandsIn-map (λ (y : Row). y.entry) rs x s)) w.there;
-                  less = w.less;
-                }) in
+            let w = within x p (inr s) e in
+            record {
+              there = still_there r.entry.txn x.entry.txn ts
+                  (order.0.apart x.entry (StandsIn-map (λ (y : Row). y.entry) rs x s)) w.there;
+              less = w.less;
+            }) in
             let out = taken_out r.entry.txn ts here.there in
             let first = total_first q (committed_in rs) in
             let less = here.less in

@@ -5,9 +5,9 @@ mod amounts;
 mod limits;
 mod rows;
 mod sums;
-mod totals;
 #[cfg(test)]
 mod tests;
+mod totals;
 
 pub use amounts::{amount, is_counter};
 pub use limits::{MAX_AMOUNT, MAX_PAYLOADS};

@@ -8,6 +8,7 @@ use text_words::Reason;
 
 /// The line that names the rule, and its number.
 const COMMUTING: &[u8] = b"certifier commute";
+
 const RULE_LINE: u32 = 2;
 
 /// Takes the lines of the header, the line `events` last, and answers the setup that they make. A line 2 that names
