@@ -12,7 +12,8 @@ use Rattle.tcs_terms.specs.declared.inputs.Note.TheVariants.{Begin, Take, ReadVa
 use Rattle.tcs_terms.specs.declared.votes.Decision.TheVariants.{Commit, Abort}
 use Rattle.tcs_terms.specs.Logs.{same_txn}
 use Rattle.tcs_terms.specs.Payloads.{Accesses}
-use Rattle.protocol.specs.History.{begins_with, commit_in, first_some, has_begun, order_of, payload_in, payloads_of}
+use Rattle.tcs_terms.proofs.OrderLaws.{kept_few}
+use Rattle.protocol.specs.History.{begins_with, commit_in, first_of_each, first_some, has_begun, order_of, payload_in, payloads_of}
 use Rattle.protocol_laws.specs.Growth.{with_commit}
 use Rattle.protocol_laws.proofs.Fronts.{payload_in-append, payload_in-decide, payload_in-kept}
 use Rattle.protocol_laws.proofs.OrderOn.{order-on}
@@ -116,6 +117,50 @@ pub totals_still : (totals : Totals) (h : List Note) (n : Note) → with_commit 
 totals_still totals h n same none are = totals_same totals totals h n same
     (λ t. sym (ap (first_some (lookup (same_txn t) totals.begun.entries)) (none t) ∙ first_or_none (lookup (same_txn t) totals.begun.entries)))
     refl refl are
+
+-- a beginning
+pub totals_begin : (old new : Totals) (h : List Note) (txn : TxId) (payload kept : Accesses) → kept ≡ payload → KeepsFirst old.begun.entries new.begun.entries txn kept
+    → new.committed.keys ≡ old.committed.keys → new.sums ≡ old.sums → AreTotals old h → AreTotals new (h ++ Begin txn payload ∷ [])
+totals_begin old new h txn payload kept same keeps committed sums are =
+    totals_same old new h (Begin txn payload) refl
+    (subst (λ (p : Accesses). KeepsFirst old.begun.entries new.begun.entries txn p) same keeps) committed sums are
+
+-- one more decision to commit a transaction
+pub totals_again : (old new : Totals) (h : List Note) (txn : TxId) → list_any (same_txn txn) old.committed.keys ≡ true → new.begun.entries ≡ old.begun.entries
+    → new.committed.keys ≡ with_commit old.committed.keys (Some txn) → new.sums ≡ old.sums → AreTotals old h → AreTotals new (h ++ Decide txn Commit ∷ [])
+totals_again old new h txn there begun committed sums are =
+    totals_same old new h (Decide txn Commit)
+    (cond-true (list_any (same_txn txn) (order_of h)) (order_of h) (order_of h ++ txn ∷ []) (ap (list_any (same_txn txn)) (sym are.committed) ∙ there))
+    (λ t. ap (lookup (same_txn t)) begun ∙ sym (first_or_none (lookup (same_txn t) old.begun.entries)))
+    (committed ∙ cond-true (list_any (same_txn txn) old.committed.keys) old.committed.keys (old.committed.keys ++ txn ∷ []) there)
+    sums are
+
+-- ---- there are no more payloads than notes
+
+few_with : {X : Type 0} (o : Option X) (xs : List X) → length (cons_option o xs) ≤ length xs + 1
+few_with None xs = omega arith
+few_with (Some x) xs = omega arith
+
+few_picked : {X Y : Type 0} (pick : X → Option Y) (xs : List X) → length (filter_map pick xs) ≤ length xs
+few_picked pick [] = omega arith
+few_picked pick (x ∷ xs) =
+    let rest = few_picked pick xs in
+    let more = few_with (pick x) (filter_map pick xs) in
+    omega arith
+
+few_firsts : (ts : List TxId) → length (first_of_each ts) ≤ length ts
+few_firsts [] = omega arith
+few_firsts (t ∷ ts) =
+    let rest = few_firsts ts in
+    let fewer = kept_few (λ u. not (same_txn t u)) (first_of_each ts) in
+    omega arith
+
+pub payloads_few : (h : List Note) → length (payloads_of h (order_of h)) ≤ length h
+payloads_few h =
+    let all = few_picked (λ t. payload_in h t) (order_of h) in
+    let firsts = few_firsts (filter_map commit_in h) in
+    let commits = few_picked commit_in h in
+    omega arith
 
 -- the first decision to commit a transaction
 pub totals_commit : (old new : Totals) (h : List Note) (txn : TxId) (p : Accesses) → list_any (same_txn txn) old.committed.keys ≡ false

@@ -79,7 +79,12 @@ impl Totals {
                 txn: _,
                 decision: Decision::Abort { .. },
             } => {}
-            Note::Take { .. } | Note::ReadValue { .. } => {}
+            Note::Take { txn: _ } => {}
+            Note::ReadValue {
+                name: _,
+                version: _,
+                value: _,
+            } => {}
         }
         Ok(())
     }
