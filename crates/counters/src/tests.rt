@@ -1,10 +1,11 @@
 //! What values, payloads and rows are worth.
 
-use crate::{amount, node_total, sums_of_rows};
+use crate::{Totals, amount, node_total, sums_of_rows};
 use std::alloc::Global;
 use std::test::Fail;
 use tcs_terms::{
-    Entry, Mark, Name, Payload, ReadPart, Row, ShardSet, TxId, Value, Vote, WritePart,
+    Cause, Decision, Entry, Mark, Name, Note, Payload, ReadPart, Row, ShardSet, TxId, Value, Vote,
+    WritePart,
 };
 
 /// The greatest amount, 1,099,511,627,775.
@@ -68,13 +69,59 @@ fn payload(alloc: Global, name: &str, value: &[u8]) -> Result<Payload, Fail> {
 fn row(alloc: Global, slot: u16, value: &[u8], mark: Mark) -> Result<Row, Fail> {
     let entry = Entry {
         slot,
-        txn: TxId {
-            home: 1,
-            seq: u32::from(slot),
-        },
+        txn: txn(slot),
         shards: ShardSet::build([1u8].to_vec(alloc)?)?,
         payload: Some(payload(alloc, "n_x", value)?),
         vote: Vote::Commit,
     };
     Ok(Row { entry, mark })
+}
+
+#[test]
+fn a_history_counts_each_commit_once(rt: HostRuntime) -> Result<(), Fail> {
+    let alloc = rt.alloc();
+    let history = [
+        begin(alloc, 1, &[0, 0, 0, 0, 0, 0, 0, 5])?,
+        begin(alloc, 2, &[0, 0, 0, 0, 0, 0, 0, 7])?,
+        begin(alloc, 3, &[0, 0, 0, 0, 0, 0, 0, 9])?,
+        decide(1, Decision::Commit),
+        decide(2, Decision::Commit),
+        decide(1, Decision::Commit),
+        decide(
+            3,
+            Decision::Abort {
+                shard: 1,
+                cause: Cause::Clash(txn(1)),
+            },
+        ),
+    ];
+    let mut totals = Totals::new(alloc);
+    for note in &history {
+        totals.saw(alloc, note)?;
+    }
+    let counter = Name::build(alloc, b"n_x")?;
+    assert_eq!(rt; totals.of(&counter), 12);
+    assert_eq!(rt; totals.sums().len(), 1);
+    Ok(())
+}
+
+fn begin(alloc: Global, seq: u16, value: &[u8]) -> Result<Note, Fail> {
+    Ok(Note::Begin {
+        txn: txn(seq),
+        payload: payload(alloc, "n_x", value)?,
+    })
+}
+
+fn decide(seq: u16, decision: Decision) -> Note {
+    Note::Decide {
+        txn: txn(seq),
+        decision,
+    }
+}
+
+fn txn(seq: u16) -> TxId {
+    TxId {
+        home: 1,
+        seq: u32::from(seq),
+    }
 }
