@@ -9,7 +9,7 @@ ghost use Rattle.protocol.specs.History.{has_begun, order_of, payloads_of};
 ghost use Rattle.protocol_laws.specs.Growth.{with_commit};
 ghost use Rattle.counters.specs.declared.limits.TheConstants.{MAX_PAYLOADS};
 ghost use Rattle.counters.specs.Sums.{AreSums};
-ghost use Rattle.counters.specs.Histories.{KeepsFirst, AreTotals, may_follow, total};
+ghost use Rattle.counters.specs.Histories.{KeepsFirst, AreTotals, decided_after, may_follow, total};
 
 use crate::sums::{Sums, add, sum_at};
 use indexmap::{IndexMap, IndexSet};
@@ -71,20 +71,25 @@ impl Totals {
                 let payload = payload.copy(alloc)?;
                 keep_begun(&mut self.begun, *txn, payload)?;
             }
-            Note::Decide {
-                txn,
-                decision: Decision::Commit,
-            } => self.saw_commit(*txn)?,
-            Note::Decide {
-                txn: _,
-                decision: Decision::Abort { .. },
-            } => {}
+            Note::Decide { txn, decision } => self.saw_decision(*txn, *decision)?,
             Note::Take { txn: _ } => {}
             Note::ReadValue {
                 name: _,
                 version: _,
                 value: _,
             } => {}
+        }
+        Ok(())
+    }
+
+    /// Goes on by a decision.
+    fn saw_decision(&mut self, txn: TxId, decision: Decision) -> Result<(), OutOfMemory>
+        ensures { OnOk result ((past : List Note) → length past < MAX_PAYLOADS → decided_after past txn decision ≡ true
+            → AreTotals self.old past → AreTotals self.new (past ++ notes.Decide txn decision ∷ [])) }
+    {
+        match decision {
+            Decision::Commit => self.saw_commit(txn)?,
+            Decision::Abort { shard: _, cause: _ } => {}
         }
         Ok(())
     }
