@@ -1,5 +1,5 @@
 -- The totals of a history with one note more.
-use Rattle.std.proofs.Common.{◌≡◌, ℕ, ◌+◌, ◌<◌, ◌≤◌, Bool, true, false, not, ◌||◌, ◌&&◌, cond, List, [], ◌∷◌, ◌++◌, length, refl, sym, ap, ◌∙◌, subst, inl, inr, arith, append-nil}
+use Rattle.std.proofs.Common.{◌≡◌, ◌+◌, ◌≤◌, Bool, true, false, not, ◌&&◌, cond, List, [], ◌∷◌, ◌++◌, length, refl, sym, ap, ◌∙◌, subst, inl, inr, arith}
 use Rattle.std.specs.Prelude.{Option, Some, None, is_some, filter_map}
 use Rattle.std.specs.List.{list_all, list_any, cons_option}
 use Rattle.std.specs.Map.{lookup}
@@ -8,14 +8,14 @@ use Rattle.std.proofs.lemmas.List.Elements.{filter_map-append}
 use Rattle.std.proofs.lemmas.List.Folds.{list_all-append}
 use Rattle.tcs_terms.specs.declared.ids.TxId.{TxId}
 use Rattle.tcs_terms.specs.declared.inputs.Note.{Note}
-use Rattle.tcs_terms.specs.declared.inputs.Note.TheVariants.{Begin, Take, ReadValue, Decide}
-use Rattle.tcs_terms.specs.declared.votes.Decision.TheVariants.{Commit, Abort}
+use Rattle.tcs_terms.specs.declared.inputs.Note.TheVariants.{Begin, Decide}
+use Rattle.tcs_terms.specs.declared.votes.Decision.TheVariants.{Commit}
 use Rattle.tcs_terms.specs.Logs.{same_txn}
 use Rattle.tcs_terms.specs.Payloads.{Accesses}
 use Rattle.tcs_terms.proofs.OrderLaws.{kept_few}
 use Rattle.protocol.specs.History.{begins_with, commit_in, first_of_each, first_some, has_begun, order_of, payload_in, payloads_of}
 use Rattle.protocol_laws.specs.Growth.{with_commit}
-use Rattle.protocol_laws.proofs.Fronts.{payload_in-append, payload_in-decide, payload_in-kept}
+use Rattle.protocol_laws.proofs.Fronts.{payload_in-append, payload_in-decide}
 use Rattle.protocol_laws.proofs.OrderOn.{order-on}
 use Rattle.protocol_laws.proofs.SameTxn.{same_txn-eq, same_txn-self}
 use Rattle.counters.specs.declared.totals.Totals.{Totals}

@@ -1,5 +1,5 @@
 -- One row more is added.
-use Rattle.std.proofs.Common.{◌≡◌, ◌+◌, ◌*◌, ◌<◌, ◌≤◌, List, length, take, arith, sym, ap, ◌∙◌}
+use Rattle.std.proofs.Common.{◌≡◌, ◌+◌, ◌<◌, ◌≤◌, List, length, take, arith, sym, ap, ◌∙◌}
 use Rattle.tcs_terms.specs.Payloads.{Accesses}
 use Rattle.counters.specs.declared.limits.TheConstants.{MAX_AMOUNT}
 use Rattle.counters.specs.Amounts.{committed_in, node_total, total_of}

@@ -1,5 +1,5 @@
 -- One row more is added.
-use Rattle.std.proofs.Common.{◌≡◌, ◌+◌, ◌<◌, ◌≤◌, List, length, take, arith, sym, subst}
+use Rattle.std.proofs.Common.{◌≡◌, ◌<◌, List, length, take, arith, sym, subst}
 use Rattle.tcs_terms.specs.Payloads.{Accesses}
 use Rattle.counters.specs.declared.limits.TheConstants.{MAX_PAYLOADS}
 use Rattle.counters.specs.Amounts.{committed_in}

@@ -1,5 +1,5 @@
 -- A note more of each kind.
-use Rattle.std.proofs.Common.{List, [], ◌∷◌, ◌++◌, sym, subst, refl}
+use Rattle.std.proofs.Common.{[], ◌∷◌, ◌++◌, sym, subst, refl}
 use Rattle.tcs_terms.specs.declared.inputs.Note.{Note}
 use Rattle.tcs_terms.specs.declared.inputs.Note.TheVariants.{Take, ReadValue}
 use Rattle.counters.specs.declared.totals.Totals.{Totals}
