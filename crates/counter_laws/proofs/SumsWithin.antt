@@ -36,16 +36,19 @@ module _ (name : List ℕ) where
           omega arith
 
   -- what a payload adds, if there is one
-  worth : Option Accesses → ℕ
+  abbrev pub worth : Option Accesses → ℕ
   worth o = unwrap_or (option_map (λ p. amount p name) o) 0
 
   total_option : (o : Option Accesses) (ps : List Accesses) → total_of (cons_option o ps) name ≡ worth o + total_of ps name
-  total_option None ps = omega arith
+  total_option None ps =
+      let none : worth None ≡ 0 = refl in
+      let same : total_of (cons_option None ps) name ≡ total_of ps name = refl in
+      omega arith
   total_option (Some p) ps = total_first p ps
 
   module _ (h : List Note) where
     -- the total of the payloads of transactions
-    total_txns : List TxId → ℕ
+    abbrev pub total_txns : List TxId → ℕ
     total_txns ts = total_of (payloads_of h ts) name
 
     total_more : (t : TxId) (ts : List TxId) → total_txns (t ∷ ts) ≡ worth (payload_in h t) + total_txns ts
@@ -78,16 +81,16 @@ module _ (name : List ℕ) where
     still_there t u [] apart there = absurd there
     still_there t u (v ∷ vs) apart there = elim (cases_Bool (same_txn t v)) [
       | inl same ↦ subst (λ xs. StandsIn u xs) (sym (cond-true (same_txn t v) vs (v ∷ without t vs) same)) (past same there)
-      | inr other ↦ subst (λ xs. StandsIn u xs) (sym (cond-false (same_txn t v) vs (v ∷ without t vs) other)) (kept there)
+      | inr other ↦ subst (λ xs. StandsIn u xs) (sym (cond-false (same_txn t v) vs (v ∷ without t vs) other)) (kept there (λ s. still_there t u vs apart s))
     ]
       where
         past : same_txn t v ≡ true → StandsIn u (v ∷ vs) → StandsIn u vs
         past same (inl e) = absurd (apart (same_txn-eq t v same ∙ sym e))
         past same (inr s) = s
 
-        kept : StandsIn u (v ∷ vs) → StandsIn u (v ∷ without t vs)
-        kept (inl e) = inl e
-        kept (inr s) = inr (still_there t u vs apart s)
+        kept : StandsIn u (v ∷ vs) → (StandsIn u vs → StandsIn u (without t vs)) → StandsIn u (v ∷ without t vs)
+        kept (inl e) again = inl e
+        kept (inr s) again = inr (again s)
 
     -- a committed row: its transaction stands among these, and its payload adds no more than the transaction's
     pub record IsWithin (r : Row) (q : Accesses) (ts : List TxId) : Type 0 where
@@ -98,22 +101,25 @@ module _ (name : List ℕ) where
         → ((r : Row) (q : Accesses) → StandsIn r rows → payload_at r ≡ Some q → IsWithin r q ts)
         → total_of (committed_in rows) name ≤ total_txns ts
     rows_within [] ts order within = omega arith
-    rows_within (r ∷ rs) ts order within = go (payload_at r) refl
+    rows_within (r ∷ rs) ts order within = go (payload_at r) refl (λ us w. rows_within rs us order.1 w)
       where
-        go : (o : Option Accesses) → payload_at r ≡ o → total_of (committed_in (r ∷ rs)) name ≤ total_txns ts
-        go None is =
-            let rest = rows_within rs ts order.1 (λ x q s e. within x q (inr s) e) in
+        go : (o : Option Accesses) → payload_at r ≡ o
+            → ((us : List TxId) → ((x : Row) (q : Accesses) → StandsIn x rs → payload_at x ≡ Some q → IsWithin x q us) → total_of (committed_in rs) name ≤ total_txns us)
+            → total_of (committed_in (r ∷ rs)) name ≤ total_txns ts
+        go None is again =
+            let rest = again ts (λ x q s e. within x q (inr s) e) in
             subst (λ ps. total_of ps name ≤ total_txns ts) (sym (ap (λ o. cons_option o (committed_in rs)) is)) rest
-        go (Some q) is =
+        go (Some q) is again =
             let here = within r q (inl refl) is in
-            let rest = rows_within rs (without r.entry.txn ts) order.1 (λ x p s e.
-            let w = within x p (inr s) e in
-            record {
-              there = still_there r.entry.txn x.entry.txn ts
-                  (order.0.apart x.entry (StandsIn-map (λ (y : Row). y.entry) rs x s)) w.there;
-              less = w.less;
-            }) in
+            let rest = again (without r.entry.txn ts) (λ x p s e. kept x p s (within x p (inr s) e)) in
             let out = taken_out r.entry.txn ts here.there in
             let first = total_first q (committed_in rs) in
             let less = here.less in
             subst (λ ps. total_of ps name ≤ total_txns ts) (sym (ap (λ o. cons_option o (committed_in rs)) is)) (omega arith)
+          where
+            kept : (x : Row) (p : Accesses) → StandsIn x rs → IsWithin x p ts → IsWithin x p (without r.entry.txn ts)
+            kept x p s w = record {
+              there = still_there r.entry.txn x.entry.txn ts
+                  (order.0.apart x.entry (StandsIn-map (λ (y : Row). y.entry) rs x s)) w.there;
+              less = w.less;
+            }
