@@ -12,10 +12,10 @@ use Rattle.cert_commute.specs.Commute.{is_counter}
 use Rattle.counters.specs.Amounts.{amount, amount_of, added_by}
 
 module _ (n shard : ℕ) (name : List ℕ) where
-  lies : WritePart → Bool
+  abbrev lies : WritePart → Bool
   lies w = lies_in n shard w.name
 
-  named : WritePart → Bool
+  abbrev named : WritePart → Bool
   named w = same_name w.name name
 
   -- the write of an object is found in the part where the object lies there, and else none is
@@ -38,7 +38,7 @@ module _ (n shard : ℕ) (name : List ℕ) where
       there : named w ≡ true → lies w ≡ true → lies_in n shard name ≡ true
       there same kept = subst (λ x. lies_in n shard x ≡ true) (same_text w.name name (sym same)) kept
 
-  worth : WritePart → ℕ
+  abbrev worth : WritePart → ℕ
   worth w = amount_of w.value
 
   smaller : (b c : Bool) (o : Option WritePart)

@@ -55,7 +55,7 @@ module _ (name : List ℕ) where
     total_more t ts = total_option (payload_in h t) (payloads_of h ts)
 
     -- a transaction is taken out
-    without : TxId → List TxId → List TxId
+    abbrev without : TxId → List TxId → List TxId
     without t [] = []
     without t (u ∷ us) = cond (same_txn t u) us (u ∷ without t us)
 
