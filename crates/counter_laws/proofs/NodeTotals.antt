@@ -1,11 +1,10 @@
 -- What a node has of a counter is within what was committed.
-use Rattle.std.proofs.Common.{◌≡◌, ℕ, ◌≤◌, Bool, true, false, not, List, [], ◌∷◌, filter, filter_map, refl, sym, ap, ◌∙◌, subst, inl, inr, arith}
+use Rattle.std.proofs.Common.{◌≡◌, ℕ, ◌≤◌, true, false, not, List, [], ◌∷◌, filter_map, refl, sym, ap, ◌∙◌, subst, inl, inr}
 use Rattle.std.specs.Prelude.{Option, Some, None}
 use Rattle.std.specs.List.{cons_option}
-use Rattle.std.specs.Option.{option_map, unwrap_or}
 use Rattle.tcs_terms.specs.declared.ids.TxId.{TxId}
 use Rattle.tcs_terms.specs.declared.inputs.Note.{Note}
-use Rattle.tcs_terms.specs.declared.inputs.Note.TheVariants.{Begin, Take, ReadValue, Decide}
+use Rattle.tcs_terms.specs.declared.inputs.Note.TheVariants.{Decide}
 use Rattle.tcs_terms.specs.declared.logs.Mark.{Mark}
 use Rattle.tcs_terms.specs.declared.logs.Mark.TheVariants.{Undecided, Committed, Aborted}
 use Rattle.tcs_terms.specs.declared.logs.Row.{Row}
@@ -14,9 +13,8 @@ use Rattle.tcs_terms.specs.declared.votes.Decision.TheVariants.{Commit, Abort}
 use Rattle.tcs_terms.specs.Logs.{same_txn}
 use Rattle.tcs_terms.specs.Payloads.{Accesses}
 use Rattle.tcs_terms.specs.Setups.{Deployment}
-use Rattle.tcs_terms.specs.Shards.{restricted}
 use Rattle.protocol.specs.Cases.{commits}
-use Rattle.protocol.specs.History.{commit_in, first_of_each, order_of, payload_in}
+use Rattle.protocol.specs.History.{commit_in, first_of_each, order_of}
 use Rattle.protocol.specs.Invariant.Promises.{PromisesHold}
 use Rattle.protocol.specs.Invariant.Time.{Moment, StandsIn}
 use Rattle.protocol.specs.Invariant.Transactions.{TransactionsHold, IsPart, EntryFits}

@@ -9,7 +9,7 @@ use Rattle.tcs_terms.specs.Payloads.{Accesses, same_name}
 use Rattle.tcs_terms.specs.Shards.{lies_in, part_in, restricted}
 use Rattle.tcs_laws.proofs.PartLemmas.{restricted_cases}
 use Rattle.cert_commute.specs.Commute.{is_counter}
-use Rattle.counters.specs.Amounts.{amount, amount_of, added_by}
+use Rattle.counters.specs.Amounts.{amount, amount_of}
 
 module _ (n shard : ℕ) (name : List ℕ) where
   abbrev lies : WritePart → Bool

@@ -1,6 +1,6 @@
 -- The total of some rows is within that of an order in which each of their transactions stands.
-use Rattle.std.proofs.Common.{◌≡◌, ℕ, ◌+◌, ◌≤◌, Bool, true, false, cond, List, [], ◌∷◌, refl, sym, ap, ◌∙◌, subst, inl, inr, arith}
-use Rattle.std.specs.Prelude.{Option, Some, None, fold, filter_map}
+use Rattle.std.proofs.Common.{◌≡◌, ℕ, ◌+◌, ◌≤◌, true, false, cond, List, [], ◌∷◌, refl, sym, ap, ◌∙◌, subst, inl, inr, arith}
+use Rattle.std.specs.Prelude.{Option, Some, None, fold}
 use Rattle.std.specs.List.{cons_option}
 use Rattle.std.specs.Option.{option_map, unwrap_or}
 use Rattle.std.proofs.lemmas.Bool.{cases_Bool, cond-true, cond-false}
@@ -15,7 +15,7 @@ use Rattle.protocol.specs.Invariant.Time.{StandsIn}
 use Rattle.protocol_laws.proofs.PromisesOrder.{InOrder}
 use Rattle.protocol_laws.proofs.SameTxn.{same_txn-eq, same_txn-self}
 use Rattle.protocol_laws.proofs.Standing.{StandsIn-map}
-use Rattle.counters.specs.Amounts.{added_by, amount, committed_in, plus, sum_of, total_of}
+use Rattle.counters.specs.Amounts.{added_by, amount, committed_in, plus, total_of}
 use Rattle.counters.proofs.Adding.{plus_worth}
 use Rattle.counters.proofs.CommittedRows.{payload_at}
 

@@ -1,12 +1,7 @@
-use Rattle.std.proofs.Common.{◌≡◌, ℕ, ◌≤◌, List, sym, subst}
-use Rattle.tcs_terms.specs.declared.inputs.Event.{Event}
-use Rattle.tcs_terms.specs.Setups.{Deployment}
-use Rattle.tcs_laws.specs.Certification.{Tests}
+use Rattle.std.proofs.Common.{ℕ, ◌≤◌, List, sym, subst}
 use Rattle.protocol.specs.Invariant.Time.{StandsIn, time_after}
-use Rattle.protocol.specs.Limit.Progress.{Live}
 use Rattle.protocol.specs.Records.{NodeRecord}
 use Rattle.protocol.specs.World.{World}
-use Rattle.protocol_laws.specs.Promises.{KeepsItsPromises}
 use Rattle.protocol_laws.specs.Told.{ToldRightly}
 use Rattle.counters.specs.Amounts.{node_total}
 use Rattle.counters.specs.Histories.{total}
