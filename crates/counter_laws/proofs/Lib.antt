@@ -1,0 +1,3 @@
+pub mod PartAmounts
+pub mod SumsWithin
+pub mod NodeTotals

@@ -1,0 +1,4 @@
+pub mod NamesApart
+pub mod Noting
+pub mod Adding
+pub mod CommittedRows
