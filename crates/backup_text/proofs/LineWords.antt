@@ -1,5 +1,5 @@
 -- Lines: what is read is spelled so and may stand there, and what may stand there is read from its text.
-use Rattle.std.proofs.Common.{◌≡◌, ℕ, ◌+◌, ◌^◌, ◌<◌, ◌≤◌, Bool, true, false, cond, ◌&&◌, List, ◌∷◌, ◌++◌, length, Option, Some, None, refl, sym, ap, subst, ◌∙◌, append_assoc, arith, inl, inr}
+use Rattle.std.proofs.Common.{◌≡◌, ℕ, ◌^◌, ◌<◌, ◌≤◌, Bool, true, false, cond, ◌&&◌, List, ◌∷◌, ◌++◌, Option, Some, None, refl, sym, ap, subst, ◌∙◌, append_assoc, arith, inl, inr}
 use Rattle.std.specs.Prelude.{◌==◌, nat_le, nat_lt, codes, decimal}
 use Rattle.std.specs.Option.{option_map}
 use Rattle.std.proofs.lemmas.Bool.{eqb-true, eq-eqb}
@@ -8,7 +8,7 @@ use Rattle.tcs_terms.specs.declared.ids.TxId.{TxId}
 use Rattle.tcs_terms.specs.Messages.{is_txn}
 use Rattle.tcs_terms.specs.Objects.{IsName, IsValue}
 use Rattle.tcs_terms.specs.Order.{name_before}
-use Rattle.tcs_terms.proofs.BoolLaws.{both, left_of, right_of}
+use Rattle.tcs_terms.proofs.BoolLaws.{left_of, right_of}
 use Rattle.text_words.specs.HexWords.{value_in}
 use Rattle.text_words.specs.PayloadText.{value_text}
 use Rattle.text_words.specs.PayloadWords.{name_in, number_in}
@@ -111,10 +111,10 @@ call_takes : (s : Standing) (text : List ℕ) (line : Line) → call_of s text �
 unfolding call_of
 call_takes s text line h =
     let k = kept (is_begun s.stage && nat_lt s.calls MAX_CALLS && is_call text) (CallLine text) line h in
-    let rest = right_of (is_begun s.stage) (nat_lt s.calls MAX_CALLS && is_call text) k.0 in
-    let room = left_of (nat_lt s.calls MAX_CALLS) (is_call text) rest in
+    let first = left_of (is_begun s.stage && nat_lt s.calls MAX_CALLS) (is_call text) k.0 in
+    let room = right_of (is_begun s.stage) (nat_lt s.calls MAX_CALLS) first in
     subst (Read s (codes "did") text) k.1 (record {
-      stands = (begins s.stage (left_of (is_begun s.stage) (nat_lt s.calls MAX_CALLS && is_call text) k.0), right_of (nat_lt s.calls MAX_CALLS) (is_call text) rest, grind (arith, nat_tests));
+      stands = (begins s.stage (left_of (is_begun s.stage) (nat_lt s.calls MAX_CALLS) first), right_of (is_begun s.stage && nat_lt s.calls MAX_CALLS) (is_call text) k.0, grind (arith, nat_tests));
       spelled = refl;
     })
 
@@ -179,13 +179,15 @@ object_line_takes s text line h =
     let object = bind_some (object_in text) _ line h in
     let k = kept (takes_object s object.0.name) (ObjectLine object.0) line object.2 in
     let o = object_takes text object.0 object.1 in
+    let placed = is_at_place s.stage in
+    let few = nat_lt s.objects MAX_OBJECTS in
     let within = in_span s.span object.0.name in
     let behind = comes_after s.last object.0.name in
-    let rest = right_of (is_at_place s.stage) (nat_lt s.objects MAX_OBJECTS && within && behind) k.0 in
-    let room = left_of (nat_lt s.objects MAX_OBJECTS) (within && behind) rest in
-    let place = right_of (nat_lt s.objects MAX_OBJECTS) (within && behind) rest in
+    let first = left_of (placed && few && within) behind k.0 in
+    let start = left_of (placed && few) within first in
+    let room = right_of placed few start in
     subst (Read s (codes "obj") text) k.1 (record {
-      stands = (is_placed s.stage (left_of (is_at_place s.stage) (nat_lt s.objects MAX_OBJECTS && within && behind) k.0), o.name_is, left_of within behind place, right_of within behind place, o.least, o.small, o.value_is, grind (arith, nat_tests));
+      stands = (is_placed s.stage (left_of placed few start), o.name_is, right_of (placed && few) within first, right_of (placed && few && within) behind k.0, o.least, o.small, o.value_is, grind (arith, nat_tests));
       spelled = ap (λ (x : List ℕ). codes "obj" ++ 32 ∷ x) o.spelled ∙ sym (object_parts object.0);
     })
 

@@ -1,5 +1,5 @@
 -- The lines of a backup file, and which of them may stand where.
-use Rattle.std.specs.Prelude.{ℕ, ◌+◌, ◌<◌, ◌≤◌, ◌≡◌, Bool, true, false, ◌&&◌, nat_le, nat_lt, List, [], ◌++◌, length, codes, decimal, Option, Some, None, IsTrue}
+use Rattle.std.specs.Prelude.{ℕ, ◌+◌, ◌<◌, ◌≤◌, ◌≡◌, Bool, true, false, ◌&&◌, nat_le, List, ◌++◌, length, codes, decimal, Option, Some, None, IsTrue}
 use Rattle.std.specs.List.{list_all}
 use Rattle.tcs_terms.specs.declared.ids.TxId.{TxId}
 use Rattle.tcs_terms.specs.Messages.{is_txn}

@@ -68,6 +68,8 @@ impl BackupReader {
         ensures err { OnErr result (self.new ≡ self.old) }
         ensures standing { IsStanding self.old }
     {
+        // Names a field, by which the invariant is known.
+        let _ = &self.stage;
         match self.take_line(alloc, line) {
             Ok(Some(item)) => Ok(item),
             Ok(None) => Err(BackupLineFault::Bad),
