@@ -1,7 +1,7 @@
 -- The events of the schedule may stand in a run of its setup.
-use Rattle.std.proofs.Common.{ℕ, suc, ◌+◌, ◌*◌, ◌<◌, ◌≤◌, ◌&&◌, ◌||◌, Bool, true, false, nat_le, nat_lt, List, [], ◌∷◌, length, All, ap, refl, arith, leb-true, le-leb, lt-ltb}
+use Rattle.std.proofs.Common.{ℕ, suc, ◌+◌, ◌*◌, ◌<◌, ◌≤◌, ◌&&◌, ◌||◌, Bool, true, false, nat_le, nat_lt, List, [], ◌∷◌, length, All, ap, refl, arith, leb-true, le-leb, lt-ltb, zero-lt-suc, suc-le-suc}
 use Rattle.std.proofs.lemmas.Bool.{ltb-true}
-use Rattle.std.proofs.lemmas.List.Elements.{All-cons, All-head, All-nil, All-tail}
+use Rattle.std.proofs.lemmas.List.Elements.{All-nil, All-cons}
 use Rattle.std.specs.List.{AllByRecursion}
 use Rattle.tcs_terms.proofs.BoolLaws.{both, left_of, right_of}
 use Rattle.tcs_terms.specs.declared.limits.TheConstants.{MAX_MEMBERS, MAX_NODES, MAX_RANGES, MAX_READS, MAX_SHARDS, MAX_WRITES}
@@ -14,6 +14,12 @@ use Rattle.protocol_laws.proofs.NamesOnce.{same_name-self}
 use Rattle.backup_machine.specs.declared.objects.Kept.{Kept}
 use Rattle.restore_laws.specs.Schedules.{CanBeRestored, IsKept, payload_of, events_from, restored_events, restored_setup}
 use Rattle.restore_laws.proofs.Worlds.{only_config}
+
+first_of : {X : Type 0} (P : X → Type 0) (x : X) (xs : List X) → All P (x ∷ xs) → P x
+first_of P x xs h = h 0 x (zero-lt-suc _)
+
+others_of : {X : Type 0} (P : X → Type 0) (x : X) (xs : List X) → All P (x ∷ xs) → All P xs
+others_of P x xs h = λ k d less. h (suc k) d (suc-le-suc less)
 
 is_payload : (k : Kept) → IsKept k → IsPayload (payload_of k)
 is_payload k h =
@@ -70,10 +76,10 @@ events_stand : (before : ℕ) (ks : List Kept) → before + length ks ≤ 4096 �
 events_stand before [] few h = tt
 events_stand before (k ∷ ks) few h =
     let bound : before + suc (length ks) ≤ 4096 = few in
-    (record { event = is_payload k (All-head IsKept k ks h); fits = refl },
+    (record { event = is_payload k (first_of IsKept k ks h); fits = refl },
     (may_deliver (4 * before + 1) (omega arith) (omega (arith, bound)),
     (may_deliver (4 * before + 2) (omega arith) (omega (arith, bound)),
-    events_stand (before + 1) ks (omega (arith, bound)) (All-tail IsKept k ks h))))
+    events_stand (before + 1) ks (omega (arith, bound)) (others_of IsKept k ks h))))
 
 pub schedule_fits : (kept : List Kept) → CanBeRestored kept → All IsKept kept → AreEventsOf restored_setup (restored_events kept)
 schedule_fits kept c h = record { deployment = is_deployment; events = let few : length kept ≤ 4096 = c.few in events_stand 0 kept (omega (arith, few)) h }
