@@ -2,3 +2,5 @@
 #![tactic(auto)]
 
 mod known;
+
+pub use known::{Envelope, Known};
