@@ -1,0 +1,36 @@
+//! What the program runs.
+use std::fmt;
+
+/// What the program runs.
+#[derive(Clone, Copy, Debug, PartialEq, Eq)]
+pub enum Mode {
+    /// All nodes and the configuration service, in one process.
+    Cluster,
+    /// One node, or the configuration service.
+    Node,
+    /// A cluster, and a monitor that moves shards away from silent nodes.
+    Guard,
+}
+
+impl Mode {
+    /// The mode that a word names.
+    pub fn named(word: &str) -> Option<Mode>
+    {
+        match word {
+            "cluster" => Some(Mode::Cluster),
+            "node" => Some(Mode::Node),
+            "guard" => Some(Mode::Guard),
+            _ => None,
+        }
+    }
+}
+
+impl fmt::Display for Mode {
+    fn fmt<W: fmt::Write>(&self, f: &mut fmt::Formatter<W>) -> fmt::Result {
+        f.write_str(match self {
+            Mode::Cluster => "cluster",
+            Mode::Node => "node",
+            Mode::Guard => "guard",
+        })
+    }
+}

@@ -1,0 +1,35 @@
+//! What the program is asked to do.
+use crate::definition::command;
+use crate::{Mode, Refusal};
+use clap::ArgMatches;
+use std::alloc::Global;
+
+/// What the program is asked to do.
+#[derive(Clone, Copy, Debug, PartialEq, Eq)]
+pub struct Request {
+    pub mode: Mode,
+    /// Which node runs, 0 to 64: 0 is the configuration service. Read in mode `node` alone.
+    pub id: u8,
+    /// The port of the configuration service, 1024 to 65000.
+    pub port: u16,
+    /// How many messages a node may leave unanswered, 1 to 1,000,000. Read in mode `guard` alone.
+    pub miss: u32,
+}
+
+/// What the words behind the program's own name ask for.
+pub fn request(alloc: Global, words: &[String]) -> Result<Request, Refusal> {
+    let command = command(alloc)?;
+    match command.try_get_matches_from(words) {
+        Ok(matches) => asked(&matches).ok_or(Refusal::BadWords),
+        Err(error) => Err(Refusal::of(alloc, &error)),
+    }
+}
+
+fn asked(matches: &ArgMatches<'_>) -> Option<Request> {
+    Some(Request {
+        mode: Mode::named(matches.get_str("mode")?)?,
+        id: matches.get_one::<u8>("id")?,
+        port: matches.get_one::<u16>("port")?,
+        miss: matches.get_one::<u32>("miss")?,
+    })
+}
