@@ -10,4 +10,4 @@ mod tests;
 
 pub use mode::Mode;
 pub use refusal::Refusal;
-pub use request::{Request, request};
+pub use request::Request;

@@ -14,8 +14,7 @@ pub enum Mode {
 
 impl Mode {
     /// The mode that a word names.
-    pub fn named(word: &str) -> Option<Mode>
-    {
+    pub fn named(word: &str) -> Option<Mode> {
         match word {
             "cluster" => Some(Mode::Cluster),
             "node" => Some(Mode::Node),

@@ -1,4 +1,7 @@
 //! What the program is asked to do.
+ghost use Rattle.std.specs.Prelude.{map, string_bytes};
+ghost use Rattle.net_words.specs.Requests.{Answers, TakesPlain};
+
 use crate::definition::command;
 use crate::{Mode, Refusal};
 use clap::ArgMatches;
@@ -16,12 +19,17 @@ pub struct Request {
     pub miss: u32,
 }
 
-/// What the words behind the program's own name ask for.
-pub fn request(alloc: Global, words: &[String]) -> Result<Request, Refusal> {
-    let command = command(alloc)?;
-    match command.try_get_matches_from(words) {
-        Ok(matches) => asked(&matches).ok_or(Refusal::BadWords),
-        Err(error) => Err(Refusal::of(alloc, &error)),
+impl Request {
+    /// What the words behind the program's own name ask for.
+    pub fn from_words(alloc: Global, words: &[String]) -> Result<Request, Refusal>
+        ensures answers { Answers (map string_bytes words.now) result }
+        ensures plain { TakesPlain (map string_bytes words.now) result }
+    {
+        let command = command(alloc)?;
+        match command.try_get_matches_from(words) {
+            Ok(matches) => asked(&matches).ok_or(Refusal::BadWords),
+            Err(error) => Err(Refusal::of(alloc, &error)),
+        }
     }
 }
 
