@@ -20,16 +20,20 @@ mode_word Guard = codes "guard"
 
 -- ---- the values of matches
 
--- the number that the option with this name has
-abbrev pub number_of : Text → List Row → Option ℕ
-number_of name rows = option_map (λ text. digits_value 10 (without_leading_plus text)) (one_of name rows)
+-- the number that a text writes
+abbrev pub number_in : Text → ℕ
+number_in text = digits_value 10 (without_leading_plus text)
 
--- the request has the values of the matches
+-- the number that an option has, and what it is where the option was left out
+abbrev pub number_or : Option Text → ℕ → ℕ
+number_or text otherwise = unwrap_or (option_map number_in text) otherwise
+
+-- the request has the values of the matches, and the defaults for the options that were left out
 pub record Holds (rows : List Row) (r : Request) : Type 0 where
   pub mode : first_of (codes "mode") rows ≡ Some (mode_word r.mode)
-  pub id : number_of (codes "id") rows ≡ Some r.id
-  pub port : number_of (codes "port") rows ≡ Some r.port
-  pub miss : number_of (codes "miss") rows ≡ Some r.miss
+  pub id : r.id ≡ number_or (one_of (codes "id") rows) 0
+  pub port : r.port ≡ number_or (one_of (codes "port") rows) 47000
+  pub miss : r.miss ≡ number_or (one_of (codes "miss") rows) 100
 
 pub record IsInRange (r : Request) : Type 0 where
   pub id : r.id ≤ 64

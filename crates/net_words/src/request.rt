@@ -33,11 +33,13 @@ impl Request {
     }
 }
 
+/// What the matches of such a command ask for.
 fn asked(matches: &ArgMatches<'_>) -> Option<Request> {
+    let mode = Mode::named(matches.get_str("mode")?)?;
     Some(Request {
-        mode: Mode::named(matches.get_str("mode")?)?,
-        id: matches.get_one::<u8>("id")?,
-        port: matches.get_one::<u16>("port")?,
-        miss: matches.get_one::<u32>("miss")?,
+        mode,
+        id: matches.get_one::<u8>("id").unwrap_or(0),
+        port: matches.get_one::<u16>("port").unwrap_or(47_000),
+        miss: matches.get_one::<u32>("miss").unwrap_or(100),
     })
 }
