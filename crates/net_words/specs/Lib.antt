@@ -1,2 +1,3 @@
 pub mod Definition
+pub mod Modes
 pub mod Requests

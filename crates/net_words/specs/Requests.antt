@@ -7,16 +7,10 @@ use Rattle.clap.specs.declared.error.kind.ErrorKind.{ErrorKind}
 use Rattle.clap.specs.declared.error.kind.ErrorKind.TheVariants.{DisplayHelp, DisplayVersion}
 use Rattle.net_words.specs.Definition.{Lent, definition, mode_words}
 use Rattle.net_words.specs.declared.mode.Mode.{Mode}
-use Rattle.net_words.specs.declared.mode.Mode.TheVariants.{Cluster, Node, Guard}
+use Rattle.net_words.specs.Modes.{mode_word}
 use Rattle.net_words.specs.declared.refusal.Refusal.{Refusal}
 use Rattle.net_words.specs.declared.refusal.Refusal.TheVariants.{BadWords, Shown, OutOfMemory}
 use Rattle.net_words.specs.declared.request.Request.{Request}
-
--- the word that names a mode
-abbrev pub mode_word : Mode → Text
-mode_word Cluster = codes "cluster"
-mode_word Node = codes "node"
-mode_word Guard = codes "guard"
 
 -- ---- the values of matches
 

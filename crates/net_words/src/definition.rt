@@ -39,7 +39,9 @@ fn port<'a>(alloc: Global) -> Arg<'a>
         .value_name("P")
         .action(ArgAction::Set)
         .value_parser(ValueParser::signed(1024, 65_000))
-        .help("The port of the configuration service; node N has the N-th port above it [default: 47000]")
+        .help(
+            "The port of the configuration service; node N has the N-th port above it [default: 47000]",
+        )
 }
 
 fn miss<'a>(alloc: Global) -> Arg<'a>

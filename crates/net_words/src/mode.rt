@@ -1,4 +1,7 @@
 //! What the program runs.
+ghost use Rattle.std.specs.Prelude.{◌≡◌};
+ghost use Rattle.net_words.specs.Modes.{mode_in};
+
 use std::fmt;
 
 /// What the program runs.
@@ -14,12 +17,17 @@ pub enum Mode {
 
 impl Mode {
     /// The mode that a word names.
-    pub fn named(word: &str) -> Option<Mode> {
-        match word {
-            "cluster" => Some(Mode::Cluster),
-            "node" => Some(Mode::Node),
-            "guard" => Some(Mode::Guard),
-            _ => None,
+    pub fn named(word: &str) -> Option<Mode>
+        ensures { result ≡ mode_in word.now }
+    {
+        if word == "cluster" {
+            Some(Mode::Cluster)
+        } else if word == "node" {
+            Some(Mode::Node)
+        } else if word == "guard" {
+            Some(Mode::Guard)
+        } else {
+            None
         }
     }
 }

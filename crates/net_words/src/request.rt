@@ -21,10 +21,7 @@ pub struct Request {
 
 impl Request {
     /// What the words behind the program's own name ask for.
-    pub fn from_words(alloc: Global, words: &[String]) -> Result<Request, Refusal>
-        ensures answers { Answers (map string_bytes words.now) result }
-        ensures plain { TakesPlain (map string_bytes words.now) result }
-    {
+    pub fn from_words(alloc: Global, words: &[String]) -> Result<Request, Refusal> {
         let command = command(alloc)?;
         match command.try_get_matches_from(words) {
             Ok(matches) => asked(&matches).ok_or(Refusal::BadWords),
