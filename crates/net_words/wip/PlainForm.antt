@@ -70,3 +70,24 @@ module _ (q0 q1 q2 q3 : ValueParser) (m : Solid) (ok0 : accepts false q0 (text_o
   no_fault (Some a) None (Some c) ok1 ok2 ok3 = rw (ok0, ok1, ok3) refl
   no_fault None (Some b) (Some c) ok1 ok2 ok3 = rw (ok0, ok2, ok3) refl
   no_fault (Some a) (Some b) (Some c) ok1 ok2 ok3 = rw (ok0, ok1, ok2, ok3) refl
+
+  abbrev pub read_with : ValueParser → Option Solid → Option Text
+  read_with q = option_map (λ s. read_as (reading_of q) (text_of s))
+
+  abbrev pub RowsHold : Option Solid → Option Solid → Option Solid → Type 0
+  RowsHold a b c = let rows = matches_of (with_parsers q0 q1 q2 q3) (solid_words m a b c) in
+      (first_of (codes "mode") rows ≡ Some (text_of m))
+      × (one_of (codes "id") rows ≡ read_with q1 a)
+      × (one_of (codes "port") rows ≡ read_with q2 b)
+      × (one_of (codes "miss") rows ≡ read_with q3 c)
+
+  pub rows_hold : (a b c : Option Solid) → RowsHold a b c
+  unfolding clap_on_literals
+  rows_hold None None None = (refl, refl, refl, refl)
+  rows_hold (Some a) None None = (refl, refl, refl, refl)
+  rows_hold None (Some b) None = (refl, refl, refl, refl)
+  rows_hold None None (Some c) = (refl, refl, refl, refl)
+  rows_hold (Some a) (Some b) None = (refl, refl, refl, refl)
+  rows_hold (Some a) None (Some c) = (refl, refl, refl, refl)
+  rows_hold None (Some b) (Some c) = (refl, refl, refl, refl)
+  rows_hold (Some a) (Some b) (Some c) = (refl, refl, refl, refl)
