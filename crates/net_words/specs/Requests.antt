@@ -1,15 +1,14 @@
 -- What words ask for.
-use Rattle.std.specs.Prelude.{◌≡◌, ◌≤◌, ◌++◌, ⊤, ℕ, Bool, true, false, List, [], ◌∷◌, Option, Some, None}
+use Rattle.std.specs.Prelude.{◌≡◌, ◌≤◌, ◌++◌, ℕ, List, [], ◌∷◌, Option, Some, None}
 use Rattle.std.specs.Prelude.{Result, MatchResult, codes, decimal, option_map, unwrap_or}
 use Rattle.std.specs.Str.Parse.{digits_value, without_leading_plus}
-use Rattle.clap.specs.Words.{App, IsAmong, Kinds, Row, Text, fault_of, first_of, matches_of, one_of}
-use Rattle.clap.specs.declared.error.kind.ErrorKind.{ErrorKind}
-use Rattle.clap.specs.declared.error.kind.ErrorKind.TheVariants.{DisplayHelp, DisplayVersion}
+use Rattle.clap.specs.Words.{App, Row, Text, fault_of, first_of, matches_of, one_of}
 use Rattle.net_words.specs.Definition.{Lent, definition, mode_words}
-use Rattle.net_words.specs.declared.mode.Mode.{Mode}
 use Rattle.net_words.specs.Modes.{mode_word}
+use Rattle.net_words.specs.Refusals.{Refuses}
+use Rattle.net_words.specs.declared.mode.Mode.{Mode}
 use Rattle.net_words.specs.declared.refusal.Refusal.{Refusal}
-use Rattle.net_words.specs.declared.refusal.Refusal.TheVariants.{BadWords, Shown, OutOfMemory}
+use Rattle.net_words.specs.declared.refusal.Refusal.TheVariants.{OutOfMemory}
 use Rattle.net_words.specs.declared.request.Request.{Request}
 
 -- ---- the values of matches
@@ -33,23 +32,6 @@ pub record IsInRange (r : Request) : Type 0 where
   pub id : r.id ≤ 64
   pub port : (1024 ≤ r.port) × (r.port ≤ 65000)
   pub miss : (1 ≤ r.miss) × (r.miss ≤ 1000000)
-
--- ---- refusals
-
--- whether the error asks for a text
-abbrev pub asks_for_text : ErrorKind → Bool
-asks_for_text DisplayHelp = true
-asks_for_text DisplayVersion = true
-asks_for_text _ = false
-
--- one of the kinds of error asks for a text, or is a fault
-abbrev pub HasOne : Bool → Kinds → Type 0
-HasOne asks kinds = (kind : ErrorKind) × IsAmong kind kinds × (asks_for_text kind ≡ asks)
-
-abbrev pub Refuses : Kinds → Refusal → Type 0
-Refuses kinds BadWords = HasOne false kinds
-Refuses kinds (Shown text) = HasOne true kinds
-Refuses kinds OutOfMemory = ⊤
 
 -- ---- answers
 

@@ -1,7 +1,12 @@
 //! Why the words ask for no run.
+ghost use Rattle.std.specs.Prelude.{◌≡◌};
+ghost use Rattle.clap.specs.Words.{kind_of};
+ghost use Rattle.net_words.specs.Refusals.{ComesTo, IsShownOrNoMemory};
+ghost use Rattle.net_words.specs.declared.refusal.Refusal.TheVariants.{OutOfMemory as no_memory};
+
 use clap::Error;
 use clap::error::ErrorKind;
-use std::alloc::{AllocError, AllocFailed, Global};
+use std::alloc::{AllocError, Global};
 
 /// Why the words ask for no run.
 #[derive(Debug, Drop)]
@@ -15,7 +20,9 @@ pub enum Refusal {
 
 impl Refusal {
     /// What an error of `clap` comes to.
-    pub(crate) fn of(alloc: Global, error: &Error) -> Refusal {
+    pub(crate) fn of(alloc: Global, error: &Error) -> Refusal
+        ensures { ComesTo (kind_of error.now) result }
+    {
         match error.kind() {
             ErrorKind::OutOfMemory => Refusal::OutOfMemory,
             ErrorKind::DisplayHelp | ErrorKind::DisplayVersion => shown(alloc, error),
@@ -25,7 +32,9 @@ impl Refusal {
 }
 
 /// The text of an error, to be shown.
-fn shown(alloc: Global, error: &Error) -> Refusal {
+fn shown(alloc: Global, error: &Error) -> Refusal
+    ensures { IsShownOrNoMemory result }
+{
     match format!(in alloc; "{error}") {
         Ok(text) => Refusal::Shown(text),
         Err(_) => Refusal::OutOfMemory,
@@ -33,6 +42,8 @@ fn shown(alloc: Global, error: &Error) -> Refusal {
 }
 
 impl From<AllocError> for Refusal {
+    ghost from_gives = { λ _ refusal. refusal ≡ no_memory };
+
     fn from(_: AllocError) -> Self {
         Refusal::OutOfMemory
     }

@@ -20,5 +20,5 @@ number_read E G k least most otherwise f name r none some only fits low high (in
     let read = some (without_minus given.0) given.1 in
     let got = signed_reads E G k least most given.0 r read only fits given.2 in
     let is : got.0 ≡ number_in (without_minus given.0) =
-        (only (without_minus given.0) (Ok got.0) (subst (λ (o : Option ℕ). ReadsOne G (without_minus given.0) o) got.1 read)).1 in
+    (only (without_minus given.0) (Ok got.0) (subst (λ (o : Option ℕ). ReadsOne G (without_minus given.0) o) got.1 read)).1 in
     rw (got.1, given.1) (is, got.2, got.3)

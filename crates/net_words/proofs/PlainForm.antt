@@ -41,7 +41,7 @@ decimal_passes least most n small low high =
     let solid = decimal_is_solid n n_small in
     let is = decimal_is_IsNumeral n n_small in
     let here : IsSignedIn (pos least) (pos most) (text_of solid.0) =
-        solid_in least most n solid.0 (subst (IsNumeral 10) solid.1 is.0) (ap (digits_value 10) (sym solid.1) ∙ is.1) small low high in
+    solid_in least most n solid.0 (subst (IsNumeral 10) solid.1 is.0) (ap (digits_value 10) (sym solid.1) ∙ is.1) small low high in
     Accepts-accepts false (numbers least most) (decimal n) (subst (IsSignedIn (pos least) (pos most)) (sym solid.1) here)
 
 -- ---- the walk over them, whatever the parsers are

@@ -19,7 +19,7 @@ use Rattle.net_words.specs.declared.mode.Mode.TheVariants.{Cluster, Node, Guard}
 use Rattle.net_words.specs.declared.refusal.Refusal.{Refusal}
 use Rattle.net_words.specs.declared.refusal.Refusal.TheVariants.{BadWords, Shown, OutOfMemory}
 use Rattle.net_words.specs.declared.request.Request.{Request}
-use Rattle.net_words.proofs.PlainForm.{IsSolid, Solid, decimal_is_solid, decimal_passes, no_fault, passes, read_with, rows_hold, solid_words, text_of, written}
+use Rattle.net_words.proofs.PlainForm.{IsSolid, Solid, decimal_is_solid, decimal_passes, no_fault, passes, rows_hold, solid_words, text_of, written}
 
 -- ---- a mode
 
@@ -103,7 +103,7 @@ module _ (modes : Lent mode_words) (p : Plain) (ranges : IsInRange (plain_reques
   holds_it : (r : Request) → Holds (matches_of (definition modes) (plain_words p)) r → r ≡ plain_request p
   holds_it r h =
       let rows = rows_hold (Names modes.list) (numbers 0 64) (numbers 1024 65000) (numbers 1 1000000) (mode_is_solid p.mode).0 mode_ok
-          id_written.solid port_written.solid miss_written.solid in
+      id_written.solid port_written.solid miss_written.solid in
       let there : Holds (matches_of (definition modes) solid_of_it) r = subst (λ (ws : List Text). Holds (matches_of (definition modes) ws) r) words_are h in
       let mode : Some (mode_word p.mode) ≡ Some (mode_word r.mode) = ap (λ (t : Text). Some t) (mode_is_solid p.mode).1 ∙ (sym rows.0 ∙ there.mode) in
       same_request p r (ap (λ (o : Option Text). unwrap_or o []) mode)

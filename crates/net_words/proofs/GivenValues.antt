@@ -131,6 +131,6 @@ given_value old m p k d q w globals no_groups x met =
       head.0.now,
       ap (option_and_then (λ (a : MatchedArg). option_map (λ s. s.now) (slice_get a.vals.items 0))) met ∙ ap (option_map (λ s. s.now)) head.1,
       ap (option_and_then (λ (a : MatchedArg). option_map (λ s. read_as a.reading s.now) (slice_get a.vals.items 0))) met
-      ∙ (ap (option_map (λ s. read_as x.reading s.now)) head.1 ∙ ap (λ (how : Reading). Some (read_as how head.0.now)) has.reading),
+          ∙ (ap (option_map (λ s. read_as x.reading s.now)) head.1 ∙ ap (λ (how : Reading). Some (read_as how head.0.now)) has.reading),
       subst (λ (s : Bor (List ℕ)). Accepts false q s.now) head.2 (has.each 0 head.0 has.some),
     )
