@@ -75,11 +75,16 @@ may_deliver number some few = record { event = omega (arith, few); fits = le-leb
 events_stand : (before : ℕ) (ks : List Kept) → before + length ks ≤ 4096 → All IsKept ks → AllByRecursion (MayStand restored_setup) (events_from before ks)
 events_stand before [] few h = tt
 events_stand before (k ∷ ks) few h =
-    let bound : before + suc (length ks) ≤ 4096 = few in
-    (record { event = is_payload k (first_of IsKept k ks h); fits = refl },
-    (may_deliver (4 * before + 1) (omega arith) (omega (arith, bound)),
-    (may_deliver (4 * before + 2) (omega arith) (omega (arith, bound)),
-    events_stand (before + 1) ks (omega (arith, bound)) (others_of IsKept k ks h))))
+    let bound : before + suc (length ks) ≤ 4096 = few in (
+      record { event = is_payload k (first_of IsKept k ks h); fits = refl },
+      (
+        may_deliver (4 * before + 1) (omega arith) (omega (arith, bound)),
+        (
+          may_deliver (4 * before + 2) (omega arith) (omega (arith, bound)),
+          events_stand (before + 1) ks (omega (arith, bound)) (others_of IsKept k ks h),
+        ),
+      ),
+    )
 
 pub schedule_fits : (kept : List Kept) → CanBeRestored kept → All IsKept kept → AreEventsOf restored_setup (restored_events kept)
 schedule_fits kept c h = record { deployment = is_deployment; events = let few : length kept ≤ 4096 = c.few in events_stand 0 kept (omega (arith, few)) h }

@@ -37,12 +37,12 @@ nothing_yet kept c = record {
 pub restores : (kept : List Kept) → CanBeRestored kept → IsRestored kept
 restores kept c =
     let came : CameTo (fold goes_on (record { results = []; world = world_with 1 [] [] [] [] }) (restored_events kept)) (map (λ (e : Event). acted) (restored_events kept)) (notes_from 0 kept)
-        = all_back 0 [] [] [] [] kept (nothing_yet kept c) in
+    = all_back 0 [] [] [] [] kept (nothing_yet kept c) in
     let start = begins (restored_events kept) in
     let history : restored_history kept ≡ notes_from 0 kept =
-        ap (λ (w : World). w.history) (sym (ran-run serial restored_setup (restored_events kept))) ∙ ap (λ (r : Ran). r.world.history) start ∙ came.history_is in
+    ap (λ (w : World). w.history) (sym (ran-run serial restored_setup (restored_events kept))) ∙ ap (λ (r : Ran). r.world.history) start ∙ came.history_is in
     let payloads : payloads_of (restored_history kept) (order_of (restored_history kept)) ≡ map payload_of kept =
-        ap (λ (h : List Note). payloads_of h (order_of h)) history ∙ ap (λ (ts : List TxId). payloads_of (notes_from 0 kept) ts) (order_is kept) ∙ payloads_are 0 kept in
+    ap (λ (h : List Note). payloads_of h (order_of h)) history ∙ ap (λ (ts : List TxId). payloads_of (notes_from 0 kept) ts) (order_is kept) ∙ payloads_are 0 kept in
     record {
       acts = ap (λ (r : Ran). r.results) start ∙ came.results_are;
       order = ap order_of history ∙ order_is kept;

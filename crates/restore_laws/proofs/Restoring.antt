@@ -90,9 +90,9 @@ commits before rows messages k ks i = ap vote_by (none-found (λ (r : Row). clas
 puts_back : (before : ℕ) (rows : List Row) (messages : List Sent) (history : List Note) (results : List Result1) (k : Kept) (ks : List Kept) (events : List Event) → IsBetween before rows messages (k ∷ ks)
     → fold goes_on (record { results = results; world = world_with (before + 1) rows [] messages history }) (events_of before k ++ events)
     ≡ fold goes_on (record {
-        results = ((results ++ acted ∷ []) ++ acted ∷ []) ++ acted ∷ [];
-        world = world_with (before + 1 + 1) (rows ++ row_for before k ∷ []) [] (messages_with messages before k) (notes_with history before k);
-      }) events
+      results = ((results ++ acted ∷ []) ++ acted ∷ []) ++ acted ∷ [];
+      world = world_with (before + 1 + 1) (rows ++ row_for before k ∷ []) [] (messages_with messages before k) (notes_with history before k);
+    }) events
 puts_back before rows messages history results k ks events i =
     let p : Accesses = payload_of k in
     let n : ℕ = before + 1 in
@@ -107,17 +107,17 @@ puts_back before rows messages history results k ks events i =
     let one : length asked_messages ≡ length messages + 1 = one_more messages (prepare_of n p) in
     let full : is_full rows ≡ false = ap (λ (s : ℕ). nat_le 4096 s) i.last ∙ lt-leb 4096 before (omega (arith, bound)) in
     ap (λ (h : Happening). fold goes_on (ran_on (record { results = results; world = w }) h) (deliver (4 * before + 1) ∷ deliver (4 * before + 2) ∷ events))
-        (certifies n rows messages history k (omega (arith, bound)))
+    (certifies n rows messages history k (omega (arith, bound)))
     ∙ ap (λ (h : Happening). fold goes_on (ran_on (record { results = results ++ acted ∷ []; world = asked }) h) (deliver (4 * before + 2) ∷ events))
-        (prepares (n + 1) n (4 * before + 1) rows ((txn 1 n, asked_case p) ∷ []) asked_messages asked_history p
-            (numbered messages (prepare_of n p) (4 * before + 1) (omega (arith, were)))
-            (none-found (λ (r : Row). same_txn r.entry.txn (txn 1 n)) rows (λ r s. i.earlier n r (omega arith) s))
-            full
-            (ap (λ (s : ℕ). s + 1) i.last)
-            (commits before rows messages k ks i))
+    (prepares (n + 1) n (4 * before + 1) rows ((txn 1 n, asked_case p) ∷ []) asked_messages asked_history p
+    (numbered messages (prepare_of n p) (4 * before + 1) (omega (arith, were)))
+    (none-found (λ (r : Row). same_txn r.entry.txn (txn 1 n)) rows (λ r s. i.earlier n r (omega arith) s))
+    full
+    (ap (λ (s : ℕ). s + 1) i.last)
+    (commits before rows messages k ks i))
     ∙ ap (λ (h : Happening). fold goes_on (ran_on (record { results = (results ++ acted ∷ []) ++ acted ∷ []; world = voted }) h) events)
-        (decides (n + 1) n (4 * before + 2) (rows ++ row_for before k ∷ []) voted_messages (asked_history ++ []) p
-            (numbered asked_messages (answer_of n p) (4 * before + 2) (omega (arith, were, one))))
+    (decides (n + 1) n (4 * before + 2) (rows ++ row_for before k ∷ []) voted_messages (asked_history ++ []) p
+    (numbered asked_messages (answer_of n p) (4 * before + 2) (omega (arith, were, one))))
 
 -- what a run came to
 pub record CameTo (r : Ran) (results : List Result1) (history : List Note) : Type 0 where
@@ -134,16 +134,16 @@ two_before (x ∷ xs) a b ys = ap (λ (zs : List Note). x ∷ zs) (two_before xs
 
 pub all_back : (before : ℕ) (rows : List Row) (messages : List Sent) (history : List Note) (results : List Result1) (ks : List Kept) → IsBetween before rows messages ks
     → CameTo (fold goes_on (record { results = results; world = world_with (before + 1) rows [] messages history }) (events_from before ks))
-        (results ++ map (λ (e : Event). acted) (events_from before ks)) (history ++ notes_from before ks)
+    (results ++ map (λ (e : Event). acted) (events_from before ks)) (history ++ notes_from before ks)
 all_back before rows messages history results [] i = record { results_are = sym (append-nil results); history_is = sym (append-nil history) }
 all_back before rows messages history results (k ∷ ks) i =
     let later : CameTo (fold goes_on (record {
-          results = ((results ++ acted ∷ []) ++ acted ∷ []) ++ acted ∷ [];
-          world = world_with (before + 1 + 1) (rows ++ row_for before k ∷ []) [] (messages_with messages before k) (notes_with history before k);
-        }) (events_from (before + 1) ks))
-        ((((results ++ acted ∷ []) ++ acted ∷ []) ++ acted ∷ []) ++ map (λ (e : Event). acted) (events_from (before + 1) ks))
-        (notes_with history before k ++ notes_from (before + 1) ks)
-        = all_back (before + 1) (rows ++ row_for before k ∷ []) (messages_with messages before k) (notes_with history before k) (((results ++ acted ∷ []) ++ acted ∷ []) ++ acted ∷ []) ks (stays_between before rows messages k ks i) in
+      results = ((results ++ acted ∷ []) ++ acted ∷ []) ++ acted ∷ [];
+      world = world_with (before + 1 + 1) (rows ++ row_for before k ∷ []) [] (messages_with messages before k) (notes_with history before k);
+    }) (events_from (before + 1) ks))
+    ((((results ++ acted ∷ []) ++ acted ∷ []) ++ acted ∷ []) ++ map (λ (e : Event). acted) (events_from (before + 1) ks))
+    (notes_with history before k ++ notes_from (before + 1) ks)
+    = all_back (before + 1) (rows ++ row_for before k ∷ []) (messages_with messages before k) (notes_with history before k) (((results ++ acted ∷ []) ++ acted ∷ []) ++ acted ∷ []) ks (stays_between before rows messages k ks i) in
     let same = puts_back before rows messages history results k ks (events_from (before + 1) ks) i in
     record {
       results_are = ap (λ (r : Ran). r.results) same ∙ later.results_are ∙ three_before results acted acted acted (map (λ (e : Event). acted) (events_from (before + 1) ks));

@@ -58,11 +58,11 @@ begun n k =
 -- the transaction of an object is certified: its preparation is sent
 pub certifies : (n : ℕ) (rows : List Row) (messages : List Sent) (history : List Note) (k : Kept) → n ≤ 1000000
     → world_step serial 2 (world_with n rows [] messages history) (certify 1 (payload_of k)) ≡ record {
-        result = acted;
-        notes = begin (txn 1 n) (payload_of k) ∷ [];
-        sent = prepare_of n (payload_of k) ∷ [];
-        after = world_with (n + 1) rows ((txn 1 n, asked_case (payload_of k)) ∷ []) (messages ++ prepare_of n (payload_of k) ∷ []) (history ++ begin (txn 1 n) (payload_of k) ∷ []);
-      }
+      result = acted;
+      notes = begin (txn 1 n) (payload_of k) ∷ [];
+      sent = prepare_of n (payload_of k) ∷ [];
+      after = world_with (n + 1) rows ((txn 1 n, asked_case (payload_of k)) ∷ []) (messages ++ prepare_of n (payload_of k) ∷ []) (history ++ begin (txn 1 n) (payload_of k) ∷ []);
+    }
 unfolding open_all
 certifies n rows messages history k few =
     let w : World = world_with n rows [] messages history in
@@ -87,11 +87,11 @@ prepared-new node n p shard new room slot vote =
 pub prepares : (next n number : ℕ) (rows : List Row) (cases : List (TxId × Case)) (messages : List Sent) (history : List Note) (p : Accesses) → message_of messages number ≡ Some (prepare_of n p)
     → row_of rows (txn 1 n) ≡ None → is_full rows ≡ false → last_slot rows + 1 ≡ n → vote_on serial rows p ≡ votes.Commit
     → world_step serial 2 (world_with next rows cases messages history) (deliver number) ≡ record {
-        result = acted;
-        notes = [];
-        sent = answer_of n p ∷ [];
-        after = world_with next (rows ++ undecided (entry_of n p) ∷ []) cases (messages ++ answer_of n p ∷ []) (history ++ []);
-      }
+      result = acted;
+      notes = [];
+      sent = answer_of n p ∷ [];
+      after = world_with next (rows ++ undecided (entry_of n p) ∷ []) cases (messages ++ answer_of n p ∷ []) (history ++ []);
+    }
 unfolding open_all
 prepares next n number rows cases messages history p there new room slot vote =
     let w : World = world_with next rows cases messages history in
@@ -110,11 +110,11 @@ decided n p =
 -- the answer is delivered: the transaction commits
 pub decides : (next n number : ℕ) (rows : List Row) (messages : List Sent) (history : List Note) (p : Accesses) → message_of messages number ≡ Some (answer_of n p)
     → world_step serial 2 (world_with next rows ((txn 1 n, asked_case p) ∷ []) messages history) (deliver number) ≡ record {
-        result = acted;
-        notes = decide (txn 1 n) decisions.Commit ∷ [];
-        sent = decision_of n ∷ outcome_of n ∷ [];
-        after = world_with next rows [] (messages ++ decision_of n ∷ outcome_of n ∷ []) (history ++ decide (txn 1 n) decisions.Commit ∷ []);
-      }
+      result = acted;
+      notes = decide (txn 1 n) decisions.Commit ∷ [];
+      sent = decision_of n ∷ outcome_of n ∷ [];
+      after = world_with next rows [] (messages ++ decision_of n ∷ outcome_of n ∷ []) (history ++ decide (txn 1 n) decisions.Commit ∷ []);
+    }
 unfolding open_all
 decides next n number rows messages history p there =
     let w : World = world_with next rows ((txn 1 n, asked_case p) ∷ []) messages history in
