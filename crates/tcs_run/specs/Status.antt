@@ -10,6 +10,8 @@ use Rattle.audit_core.specs.declared.stops.AuditStop.TheVariants as audits
 use Rattle.audit_core.specs.Audits.{Answer, Judged, BadLine}
 use Rattle.quorum_config.specs.declared.stops.QuorumStop.{QuorumStop}
 use Rattle.quorum_config.specs.declared.stops.QuorumStop.TheVariants as quorums
+use Rattle.workload.specs.declared.stops.GenStop.{GenStop}
+use Rattle.workload.specs.declared.stops.GenStop.TheVariants as generations
 use Rattle.tcs_run.specs.declared.status.Status.{Status}
 use Rattle.tcs_run.specs.declared.status.Status.TheVariants as statuses
 
@@ -70,3 +72,9 @@ status_of_audit (audits.BadTrace line) = statuses.BadTrace line
 status_of_audit audits.ReadFault = statuses.ReadFault
 status_of_audit audits.WriteFault = statuses.WriteFault
 status_of_audit audits.OutOfMemory = statuses.OutOfMemory
+
+-- the status of a generated run that stopped
+abbrev pub status_of_generation : GenStop → Status
+status_of_generation generations.WriteFault = statuses.WriteFault
+status_of_generation (generations.Full bytes) = statuses.Full bytes
+status_of_generation generations.OutOfMemory = statuses.OutOfMemory

@@ -1,7 +1,8 @@
 //! The words of the command line.
 ghost use Rattle.std.specs.Prelude.{◌≡◌, map, string_bytes};
-ghost use Rattle.tcs_run.specs.Commands.{command_in, in_one};
+ghost use Rattle.tcs_run.specs.Commands.{command_in, in_one, in_three};
 
+use crate::generations::Generation;
 use tcs_terms::same_name;
 
 /// What the program is asked to do.
@@ -13,6 +14,12 @@ pub enum Command {
     Audit,
     /// `quorum`: reads events of a quorum store, and writes the text of their run.
     Quorum,
+    /// `totals`: reads a schedule by the rule in which additions commute, and writes what its counters are worth.
+    Totals,
+    /// `gen SEED COUNT`: writes a generated schedule.
+    Generate(Generation),
+    /// `soak SEED COUNT`: runs a generated schedule, and writes what its run comes to.
+    Soak(Generation),
 }
 
 impl Command {
@@ -21,8 +28,11 @@ impl Command {
         ensures { result ≡ command_in (map string_bytes words.now) }
     {
         match words {
+            [] => None,
             [word] => in_one(word.as_bytes()),
-            _ => None,
+            [_, _] => None,
+            [word, seed, count] => in_three(word.as_bytes(), seed.as_bytes(), count.as_bytes()),
+            [_, _, _, _, ..] => None,
         }
     }
 }
@@ -37,6 +47,21 @@ fn in_one(word: &[u8]) -> Option<Command>
         Some(Command::Audit)
     } else if same_name(word, b"quorum") {
         Some(Command::Quorum)
+    } else if same_name(word, b"totals") {
+        Some(Command::Totals)
+    } else {
+        None
+    }
+}
+
+/// The command that a word and the two numbers behind it name.
+fn in_three(word: &[u8], seed: &[u8], count: &[u8]) -> Option<Command>
+    ensures { result ≡ in_three word.now seed.now count.now }
+{
+    if same_name(word, b"gen") {
+        Some(Command::Generate(Generation::named(seed, count)?))
+    } else if same_name(word, b"soak") {
+        Some(Command::Soak(Generation::named(seed, count)?))
     } else {
         None
     }

@@ -8,6 +8,7 @@ use quorum_config::QuorumStop;
 use replay_core::ReplayStop;
 use std::fmt::{self, Display, Formatter};
 use text_words::Reason;
+use workload::GenStop;
 
 /// How a run of the program ended. The program exits with its number, and its text goes to standard error where the number
 /// is above 1.
@@ -111,6 +112,21 @@ impl From<QuorumStop> for Status {
             QuorumStop::ReadFault => Status::ReadFault,
             QuorumStop::WriteFault => Status::WriteFault,
             QuorumStop::OutOfMemory => Status::OutOfMemory,
+        }
+    }
+}
+
+impl From<GenStop> for Status {
+    ghost use Rattle.std.specs.Prelude.{◌≡◌};
+    ghost use Rattle.tcs_run.specs.Status.{status_of_generation};
+
+    ghost from_gives = { λ stop status. status ≡ status_of_generation stop };
+
+    fn from(stop: GenStop) -> Status {
+        match stop {
+            GenStop::WriteFault => Status::WriteFault,
+            GenStop::OutOfMemory => Status::OutOfMemory,
+            GenStop::Full(bytes) => Status::Full(bytes),
         }
     }
 }
