@@ -9,9 +9,11 @@ use Rattle.audit_core.specs.declared.stops.AuditStop.{AuditStop}
 use Rattle.audit_core.specs.declared.stops.AuditStop.TheVariants as audits
 use Rattle.quorum_config.specs.declared.stops.QuorumStop.{QuorumStop}
 use Rattle.quorum_config.specs.declared.stops.QuorumStop.TheVariants as quorums
+use Rattle.workload.specs.declared.stops.GenStop.{GenStop}
+use Rattle.workload.specs.declared.stops.GenStop.TheVariants as generations
 use Rattle.tcs_run.specs.declared.status.Status.{Status}
 use Rattle.tcs_run.specs.declared.status.Status.TheVariants as statuses
-use Rattle.tcs_run.specs.Status.{status_of, status_of_audit, status_of_quorum, status_of_verdict}
+use Rattle.tcs_run.specs.Status.{status_of, status_of_audit, status_of_generation, status_of_quorum, status_of_verdict}
 
 -- the status of a stop that is one of two
 pub one_of_two : {Stop : Type 0} (view : Stop → Status) (status : Status) (told x y : Stop) → status ≡ view told → (told ≡ x) ⊎ (told ≡ y)
@@ -121,3 +123,30 @@ quorum_stop_not_ok (quorums.Bad line) same = absurd cc
 quorum_stop_not_ok quorums.ReadFault same = absurd cc
 quorum_stop_not_ok quorums.WriteFault same = absurd cc
 quorum_stop_not_ok quorums.OutOfMemory same = absurd cc
+
+-- ---- `gen` and `soak`
+
+abbrev generation_stop_of : Status → GenStop
+generation_stop_of statuses.Ok = generations.OutOfMemory
+generation_stop_of statuses.Incorrect = generations.OutOfMemory
+generation_stop_of statuses.BadWords = generations.OutOfMemory
+generation_stop_of (statuses.Bad line reason) = generations.OutOfMemory
+generation_stop_of (statuses.BadTrace line) = generations.OutOfMemory
+generation_stop_of (statuses.BadQuorum line) = generations.OutOfMemory
+generation_stop_of statuses.ReadFault = generations.OutOfMemory
+generation_stop_of statuses.WriteFault = generations.WriteFault
+generation_stop_of statuses.OutOfMemory = generations.OutOfMemory
+generation_stop_of (statuses.Full bytes) = generations.Full bytes
+
+generation_stop_undone : (stop : GenStop) → generation_stop_of (status_of_generation stop) ≡ stop
+generation_stop_undone generations.WriteFault = refl
+generation_stop_undone (generations.Full bytes) = refl
+generation_stop_undone generations.OutOfMemory = refl
+
+pub generation_stop_told : (a b : GenStop) → status_of_generation a ≡ status_of_generation b → a ≡ b
+generation_stop_told a b same = told_by status_of_generation generation_stop_of generation_stop_undone a b same
+
+pub generation_stop_not_ok : (stop : GenStop) → statuses.Ok ≡ status_of_generation stop → ⊥
+generation_stop_not_ok generations.WriteFault same = absurd cc
+generation_stop_not_ok (generations.Full bytes) same = absurd cc
+generation_stop_not_ok generations.OutOfMemory same = absurd cc

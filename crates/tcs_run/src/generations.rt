@@ -1,5 +1,5 @@
 //! The numbers of a generated schedule.
-ghost use Rattle.std.specs.Prelude.{◌≡◌, ◌≤◌};
+ghost use Rattle.std.specs.Prelude.{◌≡◌};
 ghost use Rattle.tcs_run.specs.Generations.{generation_in};
 
 use std::marker::Model;
@@ -14,8 +14,8 @@ const MOST: u64 = 50_000;
 /// Which generated schedule: its seed, and how many events it has, 30 to 50,000.
 #[derive(Clone, Copy, Debug, PartialEq, Eq)]
 pub struct Generation {
-    seed: u64,
-    count: u32,
+    pub(crate) seed: u64,
+    pub(crate) count: u32,
 }
 
 impl Model for Generation {
@@ -44,21 +44,5 @@ impl Generation {
         } else {
             None
         }
-    }
-
-    /// The seed, of 64 bits.
-    pub fn seed(self) -> u64
-        ensures { result ≡ self.seed }
-    {
-        self.seed
-    }
-
-    /// How many events the schedule has.
-    pub fn count(self) -> u32
-        ensures count { result ≡ self.count }
-        ensures least { 30 ≤ result }
-        ensures most { result ≤ 50000 }
-    {
-        self.count
     }
 }

@@ -5,6 +5,7 @@
 mod audits;
 mod command;
 mod flush;
+mod generations;
 mod performing;
 mod quorums;
 mod replays;
@@ -12,8 +13,10 @@ mod running;
 mod status;
 #[cfg(test)]
 mod tests;
+mod workloads;
 
 pub use command::Command;
 pub use flush::after_flush;
+pub use generations::Generation;
 pub use running::run;
 pub use status::Status;

@@ -1,8 +1,10 @@
 //! The commands, one by one.
-ghost use Rattle.std.specs.Prelude.{◌≡◌, ◌≤◌, ℕ, List, Some};
+ghost use Rattle.std.specs.Prelude.{◌≡◌, ◌⊎◌, ◌≤◌, ℕ, List, Some};
 ghost use Rattle.tcs_io.specs.Faults.{Rose};
 ghost use Rattle.tcs_run.specs.Audited.{Audited};
 ghost use Rattle.tcs_run.specs.Faults.{Quiet};
+ghost use Rattle.tcs_run.specs.Generated.{Answers, Generated, Soaked};
+ghost use Rattle.tcs_run.specs.Generations.{Seeded};
 ghost use Rattle.tcs_run.specs.Replayed.{Replayed};
 ghost use Rattle.tcs_run.specs.Stored.{Stored};
 
@@ -11,6 +13,7 @@ use crate::command::Command;
 use crate::quorums::stored;
 use crate::replays::replayed;
 use crate::status::Status;
+use crate::workloads::{generated, soaked};
 use std::alloc::Global;
 use tcs_io::{Sink, Source};
 
@@ -33,6 +36,12 @@ pub(crate) fn perform<S: Source, K: Sink>(
         → (bytes before : List ℕ) → S.left input.old ≡ Some bytes → K.held output.old ≡ Some before
         → Stored bytes before (S.left input.new) (K.held output.new)
         (Quiet (S.faults input.old) (S.faults input.new) (K.faults output.old) (K.faults output.new)) result }
+    ensures generates { (numbers : Seeded) → command ≡ Command.Generate numbers → (before : List ℕ) → K.held output.old ≡ Some before
+        → Generated numbers before (K.held output.new) result }
+    ensures soaks { (numbers : Seeded) → command ≡ Command.Soak numbers → (before : List ℕ) → K.held output.old ≡ Some before
+        → Soaked numbers before (K.held output.new) result }
+    ensures seeded { (numbers : Seeded) → (command ≡ Command.Generate numbers) ⊎ (command ≡ Command.Soak numbers)
+        → (input.new ≡ input.old) × Answers numbers (Rose (K.faults output.old) (K.faults output.new) → ⊥) result }
     ensures known { result ≡ Status.BadWords → ⊥ }
     ensures read { S.faults input.old ≤ S.faults input.new }
     ensures wrote { K.faults output.old ≤ K.faults output.new }
@@ -43,5 +52,7 @@ pub(crate) fn perform<S: Source, K: Sink>(
         Command::Replay => replayed(alloc, input, output),
         Command::Audit => audited(alloc, input, output),
         Command::Quorum => stored(alloc, input, output),
+        Command::Generate(numbers) => generated(alloc, numbers, output),
+        Command::Soak(numbers) => soaked(alloc, numbers, output),
     }
 }

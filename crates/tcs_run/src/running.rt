@@ -1,11 +1,13 @@
 //! The program, over any source and any sink.
-ghost use Rattle.std.specs.Prelude.{◌≡◌, ◌≤◌, ℕ, List, Some};
+ghost use Rattle.std.specs.Prelude.{◌≡◌, ◌⊎◌, ◌≤◌, ℕ, List, Some};
 ghost use Rattle.tcs_io.specs.Faults.{Rose};
 ghost use Rattle.replay_core.specs.Replays.{Finishes};
 ghost use Rattle.tcs_run.specs.declared.command.Command.{Command};
 ghost use Rattle.tcs_run.specs.Commands.{Names};
 ghost use Rattle.tcs_run.specs.Audited.{Audited};
 ghost use Rattle.tcs_run.specs.Faults.{Quiet};
+ghost use Rattle.tcs_run.specs.Generated.{Answers, Generated, Soaked};
+ghost use Rattle.tcs_run.specs.Generations.{Seeded};
 ghost use Rattle.tcs_run.specs.Replayed.{Replayed};
 ghost use Rattle.tcs_run.specs.Stored.{Stored};
 
@@ -20,7 +22,8 @@ use tcs_io::{Sink, Source};
 /// `replay` reads a schedule from the input, and writes the trace of its run to the output. One line after the other is
 /// read, checked, stepped and written, and what is refused first in this order of work ends the run. `audit` reads a trace to
 /// its end, and writes the verdict on the history that it tells. `quorum` reads events of a quorum store, and writes the
-/// text of their run, line by line as `replay` does.
+/// text of their run, line by line as `replay` does. `gen` writes the schedule that two numbers make, and `soak` what the run
+/// of this schedule comes to; they read nothing.
 pub fn run<S: Source, K: Sink>(
     alloc: Global,
     words: &[String],
@@ -75,6 +78,20 @@ pub fn run<S: Source, K: Sink>(
         → (bytes before : List ℕ) → S.left input.old ≡ Some bytes → K.held output.old ≡ Some before
         → Stored bytes before (S.left input.new) (K.held output.new)
         (Quiet (S.faults input.old) (S.faults input.new) (K.faults output.old) (K.faults output.new)) result }
+
+    // ---- `gen` and `soak`
+
+    // With `Ok` the output took the text of the schedule that the two numbers make (`gen`), or the five counts of its run
+    // (`soak`). That run keeps its promises, all its reads are honest, and its committed transactions behave as on one copy of
+    // the data, for every seed and count.
+    ensures generates { (numbers : Seeded) → Names (Command.Generate numbers) words.now
+        → (before : List ℕ) → K.held output.old ≡ Some before → Generated numbers before (K.held output.new) result }
+    ensures soaks { (numbers : Seeded) → Names (Command.Soak numbers) words.now
+        → (before : List ℕ) → K.held output.old ≡ Some before → Soaked numbers before (K.held output.new) result }
+
+    // Nothing is read, and which status comes.
+    ensures seeded { (numbers : Seeded) → Names (Command.Generate numbers) words.now ⊎ Names (Command.Soak numbers) words.now
+        → (input.new ≡ input.old) × Answers numbers (Rose (K.faults output.old) (K.faults output.new) → ⊥) result }
 
     // ---- A fault is told only where it was counted.
     ensures read { S.faults input.old ≤ S.faults input.new }

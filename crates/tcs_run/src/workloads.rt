@@ -16,7 +16,7 @@ pub(crate) fn generated<K: Sink>(alloc: Global, numbers: Generation, output: &mu
     ensures wrote { K.faults output.old ≤ K.faults output.new }
     ensures write_fault { result ≡ Status.WriteFault → Rose (K.faults output.old) (K.faults output.new) }
 {
-    match generate(alloc, numbers.seed(), numbers.count(), output) {
+    match generate(alloc, numbers.seed, numbers.count, output) {
         Ok(()) => Status::Ok,
         Err(stop) => Status::from(stop),
     }
@@ -29,7 +29,7 @@ pub(crate) fn soaked<K: Sink>(alloc: Global, numbers: Generation, output: &mut K
     ensures wrote { K.faults output.old ≤ K.faults output.new }
     ensures write_fault { result ≡ Status.WriteFault → Rose (K.faults output.old) (K.faults output.new) }
 {
-    match soak(alloc, numbers.seed(), numbers.count(), output) {
+    match soak(alloc, numbers.seed, numbers.count, output) {
         Ok(()) => Status::Ok,
         Err(stop) => Status::from(stop),
     }

@@ -1,6 +1,6 @@
 -- Words that name a command name no other, so that what is said of the others is said of no run.
-use Rattle.std.proofs.Common.{sym}
-use Rattle.tcs_run.specs.declared.command.Command.TheVariants.{Replay, Audit, Quorum}
+use Rattle.std.proofs.Common.{sym, inl, inr}
+use Rattle.tcs_run.specs.declared.command.Command.TheVariants.{Replay, Audit, Quorum, Generate, Soak}
 use Rattle.tcs_run.proofs.Naming.{one_command, no_command}
 use Rattle.tcs_run.proofs.running.run.Goals as goal
 
@@ -15,6 +15,18 @@ returns-in-None-clause-audits g c = λ named. absurd (no_command Audit c.args.wo
 
 pub returns-in-None-clause-stores : goal.returns-in-None-clause-stores
 returns-in-None-clause-stores g c = λ named. absurd (no_command Quorum c.args.words.now (sym c.in-None.ensures) named)
+
+pub returns-in-None-clause-generates : goal.returns-in-None-clause-generates
+returns-in-None-clause-generates g c = λ numbers named. absurd (no_command (Generate numbers) c.args.words.now (sym c.in-None.ensures) named)
+
+pub returns-in-None-clause-soaks : goal.returns-in-None-clause-soaks
+returns-in-None-clause-soaks g c = λ numbers named. absurd (no_command (Soak numbers) c.args.words.now (sym c.in-None.ensures) named)
+
+pub returns-in-None-clause-seeded : goal.returns-in-None-clause-seeded
+returns-in-None-clause-seeded g c = λ numbers either. elim either [
+  inl named ↦ absurd (no_command (Generate numbers) c.args.words.now (sym c.in-None.ensures) named)
+| inr named ↦ absurd (no_command (Soak numbers) c.args.words.now (sym c.in-None.ensures) named)
+]
 
 pub returns-in-Some-clause-unnamed : goal.returns-in-Some-clause-unnamed
 returns-in-Some-clause-unnamed g c = λ none. absurd (none c.in-Some.command (sym c.in-Some.ensures))
@@ -31,3 +43,17 @@ returns-in-Some-clause-audits g c = λ named. c.perform.ensures.audits (one_comm
 
 pub returns-in-Some-clause-stores : goal.returns-in-Some-clause-stores
 returns-in-Some-clause-stores g c = λ named. c.perform.ensures.stores (one_command c.in-Some.command Quorum c.args.words.now (sym c.in-Some.ensures) named)
+
+pub returns-in-Some-clause-generates : goal.returns-in-Some-clause-generates
+returns-in-Some-clause-generates g c = λ numbers named.
+    c.perform.ensures.generates numbers (one_command c.in-Some.command (Generate numbers) c.args.words.now (sym c.in-Some.ensures) named)
+
+pub returns-in-Some-clause-soaks : goal.returns-in-Some-clause-soaks
+returns-in-Some-clause-soaks g c = λ numbers named.
+    c.perform.ensures.soaks numbers (one_command c.in-Some.command (Soak numbers) c.args.words.now (sym c.in-Some.ensures) named)
+
+pub returns-in-Some-clause-seeded : goal.returns-in-Some-clause-seeded
+returns-in-Some-clause-seeded g c = λ numbers either. elim either [
+  inl named ↦ c.perform.ensures.seeded numbers (inl (one_command c.in-Some.command (Generate numbers) c.args.words.now (sym c.in-Some.ensures) named))
+| inr named ↦ c.perform.ensures.seeded numbers (inr (one_command c.in-Some.command (Soak numbers) c.args.words.now (sym c.in-Some.ensures) named))
+]
