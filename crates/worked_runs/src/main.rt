@@ -1,15 +1,18 @@
 //! Puts the worked runs through the top call: each schedule of the folder that it runs in, by a source that gives at most
 //! 4,096 bytes a read, and where a line of it is bad also by sources that give 1 and 7. What is written is compared with the
 //! trace beside the schedule, byte for byte, and that is read as a trace, which has an end where the replay was whole. Each
-//! run is also stepped twice, with votes by scan and by look-up.
+//! run is also stepped twice, with votes by scan and by look-up. Then the other commands do their work, and what they write is
+//! compared with the file that says what it has to be.
 #![tactic(auto)]
 
+mod commands;
 mod guards;
 mod names;
 mod reading_back;
 mod replaying;
 
 use anyhow::Error;
+use commands::{COMMANDS, done};
 use guards::guards_agree;
 use names::WORKED_RUNS;
 use reading_back::ends;
@@ -30,6 +33,10 @@ fn main(rt: HostRuntime) -> Result<(), Error> {
     )?;
     let left = left_at_the_bad_line(&rt)?;
     println!(rt; "bad_line_order, byte by byte: {left} bytes are not read")?;
+    for case in COMMANDS {
+        let done = done(&rt, case)?;
+        println!(rt; "{done}")?;
+    }
     Ok(())
 }
 

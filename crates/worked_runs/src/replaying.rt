@@ -1,11 +1,11 @@
-//! One replay in memory, and what came of it.
+//! One run of the top call in memory, and what came of it.
 
 use std::alloc::{AllocError, Global};
 use std::fmt::{self, Display, Formatter};
 use tcs_io::{MemSink, MemSource};
 use tcs_run::{Status, run};
 
-/// What came of a replay: how it ended, what it wrote, and how many bytes it left unread.
+/// What came of a run: how it ended, what it wrote, and how many bytes it left unread.
 #[derive(Drop)]
 pub(crate) struct Replayed {
     pub(crate) status: Status,
@@ -19,11 +19,23 @@ pub(crate) fn replay_of(
     schedule: &[u8],
     most: usize,
 ) -> Result<Replayed, AllocError> {
+    run_of(alloc, &["replay"], schedule, most)
+}
+
+/// Does what words say, with a source that gives at most so many bytes a read, and at least one.
+pub(crate) fn run_of(
+    alloc: Global,
+    command: &[&str],
+    input: &[u8],
+    most: usize,
+) -> Result<Replayed, AllocError> {
     let mut words = Vec::new(alloc);
-    words
-        .push(String::from_str(alloc, "replay")?)
-        .map_err(|_| AllocError)?;
-    let mut input = MemSource::new(schedule.to_vec(alloc)?, most.max(1), Vec::new(alloc));
+    for word in command {
+        words
+            .push(String::from_str(alloc, word)?)
+            .map_err(|_| AllocError)?;
+    }
+    let mut input = MemSource::new(input.to_vec(alloc)?, most.max(1), Vec::new(alloc));
     let mut output = MemSink::new(alloc, Vec::new(alloc));
     let status = run(alloc, &words, &mut input, &mut output);
     Ok(Replayed {
