@@ -6,3 +6,4 @@ pub mod Generations
 pub mod Replayed
 pub mod Status
 pub mod Stored
+pub mod Totalled

@@ -14,6 +14,8 @@ pub enum Command {
     Audit,
     /// `quorum`: reads events of a quorum store, and writes the text of their run.
     Quorum,
+    /// `totals`: reads a schedule by the rule in which additions commute, and writes what its counters are worth.
+    Totals,
     /// `gen SEED COUNT`: writes a generated schedule.
     Generate(Generation),
     /// `soak SEED COUNT`: runs a generated schedule, and writes what its run comes to.
@@ -45,6 +47,8 @@ fn in_one(word: &[u8]) -> Option<Command>
         Some(Command::Audit)
     } else if same_name(word, b"quorum") {
         Some(Command::Quorum)
+    } else if same_name(word, b"totals") {
+        Some(Command::Totals)
     } else {
         None
     }

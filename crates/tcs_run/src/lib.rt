@@ -13,6 +13,7 @@ mod running;
 mod status;
 #[cfg(test)]
 mod tests;
+mod totals;
 mod workloads;
 
 pub use command::Command;

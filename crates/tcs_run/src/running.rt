@@ -10,6 +10,7 @@ ghost use Rattle.tcs_run.specs.Generated.{Answers, Generated, Soaked};
 ghost use Rattle.tcs_run.specs.Generations.{Seeded};
 ghost use Rattle.tcs_run.specs.Replayed.{Replayed};
 ghost use Rattle.tcs_run.specs.Stored.{Stored};
+ghost use Rattle.tcs_run.specs.Totalled.{Totalled};
 
 use crate::command::Command;
 use crate::performing::perform;
@@ -22,7 +23,8 @@ use tcs_io::{Sink, Source};
 /// `replay` reads a schedule from the input, and writes the trace of its run to the output. One line after the other is
 /// read, checked, stepped and written, and what is refused first in this order of work ends the run. `audit` reads a trace to
 /// its end, and writes the verdict on the history that it tells. `quorum` reads events of a quorum store, and writes the
-/// text of their run, line by line as `replay` does. `gen` writes the schedule that two numbers make, and `soak` what the run
+/// text of their run, line by line as `replay` does. `totals` reads a schedule by the rule in which additions commute, and
+/// writes what the counters of its run are worth. `gen` writes the schedule that two numbers make, and `soak` what the run
 /// of this schedule comes to; they read nothing.
 pub fn run<S: Source, K: Sink>(
     alloc: Global,
@@ -77,6 +79,17 @@ pub fn run<S: Source, K: Sink>(
     ensures stores { Names Command.Quorum words.now
         → (bytes before : List ℕ) → S.left input.old ≡ Some bytes → K.held output.old ≡ Some before
         → Stored bytes before (S.left input.new) (K.held output.new)
+        (Quiet (S.faults input.old) (S.faults input.new) (K.faults output.old) (K.faults output.new)) result }
+
+    // ---- `totals`
+
+    // With `Ok` the bytes were the text of a schedule by the rule in which additions commute, and the output took a line for
+    // each counter to which a committed transaction of its run adds: the sum over the order of commits, and the greatest
+    // that a node of the counter's shard holds, which is at most that sum. With each other status what was read and written
+    // by then, and which status comes.
+    ensures totals { Names Command.Totals words.now
+        → (bytes before : List ℕ) → S.left input.old ≡ Some bytes → K.held output.old ≡ Some before
+        → Totalled bytes before (S.left input.new) (K.held output.new)
         (Quiet (S.faults input.old) (S.faults input.new) (K.faults output.old) (K.faults output.new)) result }
 
     // ---- `gen` and `soak`
