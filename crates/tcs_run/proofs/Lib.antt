@@ -1,3 +1,4 @@
 pub mod Naming
+pub mod Restoring
 pub mod Statuses
 pub mod Answered

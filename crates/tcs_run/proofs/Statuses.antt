@@ -9,11 +9,13 @@ use Rattle.audit_core.specs.declared.stops.AuditStop.{AuditStop}
 use Rattle.audit_core.specs.declared.stops.AuditStop.TheVariants as audits
 use Rattle.quorum_config.specs.declared.stops.QuorumStop.{QuorumStop}
 use Rattle.quorum_config.specs.declared.stops.QuorumStop.TheVariants as quorums
+use Rattle.restore_core.specs.declared.stops.RestoreStop.{RestoreStop}
+use Rattle.restore_core.specs.declared.stops.RestoreStop.TheVariants as restores
 use Rattle.workload.specs.declared.stops.GenStop.{GenStop}
 use Rattle.workload.specs.declared.stops.GenStop.TheVariants as generations
 use Rattle.tcs_run.specs.declared.status.Status.{Status}
 use Rattle.tcs_run.specs.declared.status.Status.TheVariants as statuses
-use Rattle.tcs_run.specs.Status.{status_of, status_of_audit, status_of_generation, status_of_quorum, status_of_verdict}
+use Rattle.tcs_run.specs.Status.{status_of, status_of_audit, status_of_generation, status_of_quorum, status_of_restore, status_of_verdict}
 
 -- the status of a stop that is one of two
 pub one_of_two : {Stop : Type 0} (view : Stop → Status) (status : Status) (told x y : Stop) → status ≡ view told → (told ≡ x) ⊎ (told ≡ y)
@@ -34,6 +36,7 @@ stop_of statuses.BadWords = stops.OutOfMemory
 stop_of (statuses.Bad line reason) = stops.Bad line reason
 stop_of (statuses.BadTrace line) = stops.OutOfMemory
 stop_of (statuses.BadQuorum line) = stops.OutOfMemory
+stop_of (statuses.BadBackup line) = stops.OutOfMemory
 stop_of statuses.ReadFault = stops.ReadFault
 stop_of statuses.WriteFault = stops.WriteFault
 stop_of statuses.OutOfMemory = stops.OutOfMemory
@@ -65,6 +68,7 @@ audit_stop_of statuses.BadWords = audits.OutOfMemory
 audit_stop_of (statuses.Bad line reason) = audits.OutOfMemory
 audit_stop_of (statuses.BadTrace line) = audits.BadTrace line
 audit_stop_of (statuses.BadQuorum line) = audits.OutOfMemory
+audit_stop_of (statuses.BadBackup line) = audits.OutOfMemory
 audit_stop_of statuses.ReadFault = audits.ReadFault
 audit_stop_of statuses.WriteFault = audits.WriteFault
 audit_stop_of statuses.OutOfMemory = audits.OutOfMemory
@@ -104,6 +108,7 @@ quorum_stop_of statuses.BadWords = quorums.OutOfMemory
 quorum_stop_of (statuses.Bad line reason) = quorums.OutOfMemory
 quorum_stop_of (statuses.BadTrace line) = quorums.OutOfMemory
 quorum_stop_of (statuses.BadQuorum line) = quorums.Bad line
+quorum_stop_of (statuses.BadBackup line) = quorums.OutOfMemory
 quorum_stop_of statuses.ReadFault = quorums.ReadFault
 quorum_stop_of statuses.WriteFault = quorums.WriteFault
 quorum_stop_of statuses.OutOfMemory = quorums.OutOfMemory
@@ -133,6 +138,7 @@ generation_stop_of statuses.BadWords = generations.OutOfMemory
 generation_stop_of (statuses.Bad line reason) = generations.OutOfMemory
 generation_stop_of (statuses.BadTrace line) = generations.OutOfMemory
 generation_stop_of (statuses.BadQuorum line) = generations.OutOfMemory
+generation_stop_of (statuses.BadBackup line) = generations.OutOfMemory
 generation_stop_of statuses.ReadFault = generations.OutOfMemory
 generation_stop_of statuses.WriteFault = generations.WriteFault
 generation_stop_of statuses.OutOfMemory = generations.OutOfMemory
@@ -150,3 +156,33 @@ pub generation_stop_not_ok : (stop : GenStop) → statuses.Ok ≡ status_of_gene
 generation_stop_not_ok generations.WriteFault same = absurd cc
 generation_stop_not_ok (generations.Full bytes) same = absurd cc
 generation_stop_not_ok generations.OutOfMemory same = absurd cc
+
+-- ---- `restore`
+
+abbrev restore_stop_of : Status → RestoreStop
+restore_stop_of statuses.Ok = restores.OutOfMemory
+restore_stop_of statuses.Incorrect = restores.OutOfMemory
+restore_stop_of statuses.BadWords = restores.OutOfMemory
+restore_stop_of (statuses.Bad line reason) = restores.OutOfMemory
+restore_stop_of (statuses.BadTrace line) = restores.OutOfMemory
+restore_stop_of (statuses.BadQuorum line) = restores.OutOfMemory
+restore_stop_of (statuses.BadBackup line) = restores.BadBackup line
+restore_stop_of statuses.ReadFault = restores.ReadFault
+restore_stop_of statuses.WriteFault = restores.WriteFault
+restore_stop_of statuses.OutOfMemory = restores.OutOfMemory
+restore_stop_of (statuses.Full bytes) = restores.OutOfMemory
+
+restore_stop_undone : (stop : RestoreStop) → restore_stop_of (status_of_restore stop) ≡ stop
+restore_stop_undone (restores.BadBackup line) = refl
+restore_stop_undone restores.ReadFault = refl
+restore_stop_undone restores.WriteFault = refl
+restore_stop_undone restores.OutOfMemory = refl
+
+pub restore_stop_told : (a b : RestoreStop) → status_of_restore a ≡ status_of_restore b → a ≡ b
+restore_stop_told a b same = told_by status_of_restore restore_stop_of restore_stop_undone a b same
+
+pub restore_stop_not_ok : (stop : RestoreStop) → statuses.Ok ≡ status_of_restore stop → ⊥
+restore_stop_not_ok (restores.BadBackup line) same = absurd cc
+restore_stop_not_ok restores.ReadFault same = absurd cc
+restore_stop_not_ok restores.WriteFault same = absurd cc
+restore_stop_not_ok restores.OutOfMemory same = absurd cc

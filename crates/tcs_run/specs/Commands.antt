@@ -3,7 +3,7 @@ use Rattle.std.specs.Prelude.{◌≡◌, ℕ, List, [], ◌∷◌, map, codes, s
 use Rattle.std.specs.declared.alloc.Global.{Global}
 use Rattle.tcs_terms.specs.Payloads.{same_name}
 use Rattle.tcs_run.specs.declared.command.Command.{Command}
-use Rattle.tcs_run.specs.declared.command.Command.TheVariants.{Replay, Audit, Quorum, Totals, Generate, Soak}
+use Rattle.tcs_run.specs.declared.command.Command.TheVariants.{Replay, Audit, Quorum, Totals, Restore, Generate, Soak}
 use Rattle.tcs_run.specs.Generations.{Seeded, generation_in}
 
 -- the command that a word names by itself
@@ -13,6 +13,7 @@ in_one word =
     else if same_name word (codes "audit") then Some Audit
     else if same_name word (codes "quorum") then Some Quorum
     else if same_name word (codes "totals") then Some Totals
+    else if same_name word (codes "restore") then Some Restore
     else None
 
 -- the command that some numbers are given to

@@ -4,6 +4,7 @@ pub mod Faults
 pub mod Generated
 pub mod Generations
 pub mod Replayed
+pub mod Restored
 pub mod Status
 pub mod Stored
 pub mod Totalled

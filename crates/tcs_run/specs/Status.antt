@@ -10,6 +10,8 @@ use Rattle.audit_core.specs.declared.stops.AuditStop.TheVariants as audits
 use Rattle.audit_core.specs.Audits.{Answer, Judged, BadLine}
 use Rattle.quorum_config.specs.declared.stops.QuorumStop.{QuorumStop}
 use Rattle.quorum_config.specs.declared.stops.QuorumStop.TheVariants as quorums
+use Rattle.restore_core.specs.declared.stops.RestoreStop.{RestoreStop}
+use Rattle.restore_core.specs.declared.stops.RestoreStop.TheVariants as restores
 use Rattle.workload.specs.declared.stops.GenStop.{GenStop}
 use Rattle.workload.specs.declared.stops.GenStop.TheVariants as generations
 use Rattle.tcs_run.specs.declared.status.Status.{Status}
@@ -23,6 +25,7 @@ exit_number statuses.BadWords = 2
 exit_number (statuses.Bad line reason) = 3
 exit_number (statuses.BadTrace line) = 3
 exit_number (statuses.BadQuorum line) = 3
+exit_number (statuses.BadBackup line) = 3
 exit_number statuses.ReadFault = 4
 exit_number statuses.WriteFault = 5
 exit_number statuses.OutOfMemory = 6
@@ -36,6 +39,7 @@ status_text statuses.BadWords = codes "bad words"
 status_text (statuses.Bad line reason) = codes "bad line " ++ (decimal line ++ (codes ": " ++ reason_text reason))
 status_text (statuses.BadTrace line) = codes "bad trace line " ++ decimal line
 status_text (statuses.BadQuorum line) = codes "bad quorum line " ++ decimal line
+status_text (statuses.BadBackup line) = codes "bad backup line " ++ decimal line
 status_text statuses.ReadFault = codes "read fault"
 status_text statuses.WriteFault = codes "write fault"
 status_text statuses.OutOfMemory = codes "out of memory"
@@ -78,3 +82,10 @@ abbrev pub status_of_generation : GenStop → Status
 status_of_generation generations.WriteFault = statuses.WriteFault
 status_of_generation (generations.Full bytes) = statuses.Full bytes
 status_of_generation generations.OutOfMemory = statuses.OutOfMemory
+
+-- the status of a restore that stopped
+abbrev pub status_of_restore : RestoreStop → Status
+status_of_restore (restores.BadBackup line) = statuses.BadBackup line
+status_of_restore restores.ReadFault = statuses.ReadFault
+status_of_restore restores.WriteFault = statuses.WriteFault
+status_of_restore restores.OutOfMemory = statuses.OutOfMemory

@@ -16,6 +16,8 @@ pub enum Command {
     Quorum,
     /// `totals`: reads a schedule by the rule in which additions commute, and writes what its counters are worth.
     Totals,
+    /// `restore`: reads a backup file, and writes the schedule that puts its objects back.
+    Restore,
     /// `gen SEED COUNT`: writes a generated schedule.
     Generate(Generation),
     /// `soak SEED COUNT`: runs a generated schedule, and writes what its run comes to.
@@ -49,6 +51,8 @@ fn in_one(word: &[u8]) -> Option<Command>
         Some(Command::Quorum)
     } else if same_name(word, b"totals") {
         Some(Command::Totals)
+    } else if same_name(word, b"restore") {
+        Some(Command::Restore)
     } else {
         None
     }

@@ -9,6 +9,7 @@ mod generations;
 mod performing;
 mod quorums;
 mod replays;
+mod restores;
 mod running;
 mod status;
 #[cfg(test)]

@@ -6,6 +6,7 @@ ghost use Rattle.tcs_run.specs.Faults.{Quiet};
 ghost use Rattle.tcs_run.specs.Generated.{Answers, Generated, Soaked};
 ghost use Rattle.tcs_run.specs.Generations.{Seeded};
 ghost use Rattle.tcs_run.specs.Replayed.{Replayed};
+ghost use Rattle.tcs_run.specs.Restored.{Restored};
 ghost use Rattle.tcs_run.specs.Stored.{Stored};
 ghost use Rattle.tcs_run.specs.Totalled.{Totalled};
 
@@ -13,6 +14,7 @@ use crate::audits::audited;
 use crate::command::Command;
 use crate::quorums::stored;
 use crate::replays::replayed;
+use crate::restores::restored;
 use crate::status::Status;
 use crate::totals::totalled;
 use crate::workloads::{generated, soaked};
@@ -42,6 +44,10 @@ pub(crate) fn perform<S: Source, K: Sink>(
         → (bytes before : List ℕ) → S.left input.old ≡ Some bytes → K.held output.old ≡ Some before
         → Totalled bytes before (S.left input.new) (K.held output.new)
         (Quiet (S.faults input.old) (S.faults input.new) (K.faults output.old) (K.faults output.new)) result }
+    ensures restores { command ≡ Command.Restore
+        → (bytes before : List ℕ) → S.left input.old ≡ Some bytes → K.held output.old ≡ Some before
+        → Restored bytes before (S.left input.new) (K.held output.new)
+        (Quiet (S.faults input.old) (S.faults input.new) (K.faults output.old) (K.faults output.new)) result }
     ensures generates { (numbers : Seeded) → command ≡ Command.Generate numbers → (before : List ℕ) → K.held output.old ≡ Some before
         → Generated numbers before (K.held output.new) result }
     ensures soaks { (numbers : Seeded) → command ≡ Command.Soak numbers → (before : List ℕ) → K.held output.old ≡ Some before
@@ -59,6 +65,7 @@ pub(crate) fn perform<S: Source, K: Sink>(
         Command::Audit => audited(alloc, input, output),
         Command::Quorum => stored(alloc, input, output),
         Command::Totals => totalled(alloc, input, output),
+        Command::Restore => restored(alloc, input, output),
         Command::Generate(numbers) => generated(alloc, numbers, output),
         Command::Soak(numbers) => soaked(alloc, numbers, output),
     }

@@ -9,6 +9,7 @@ ghost use Rattle.tcs_run.specs.Faults.{Quiet};
 ghost use Rattle.tcs_run.specs.Generated.{Answers, Generated, Soaked};
 ghost use Rattle.tcs_run.specs.Generations.{Seeded};
 ghost use Rattle.tcs_run.specs.Replayed.{Replayed};
+ghost use Rattle.tcs_run.specs.Restored.{Restored};
 ghost use Rattle.tcs_run.specs.Stored.{Stored};
 ghost use Rattle.tcs_run.specs.Totalled.{Totalled};
 
@@ -24,7 +25,8 @@ use tcs_io::{Sink, Source};
 /// read, checked, stepped and written, and what is refused first in this order of work ends the run. `audit` reads a trace to
 /// its end, and writes the verdict on the history that it tells. `quorum` reads events of a quorum store, and writes the
 /// text of their run, line by line as `replay` does. `totals` reads a schedule by the rule in which additions commute, and
-/// writes what the counters of its run are worth. `gen` writes the schedule that two numbers make, and `soak` what the run
+/// writes what the counters of its run are worth. `restore` reads a backup file, and writes the schedule that puts its objects
+/// back. `gen` writes the schedule that two numbers make, and `soak` what the run
 /// of this schedule comes to; they read nothing.
 pub fn run<S: Source, K: Sink>(
     alloc: Global,
@@ -90,6 +92,16 @@ pub fn run<S: Source, K: Sink>(
     ensures totals { Names Command.Totals words.now
         → (bytes before : List ℕ) → S.left input.old ≡ Some bytes → K.held output.old ≡ Some before
         → Totalled bytes before (S.left input.new) (K.held output.new)
+        (Quiet (S.faults input.old) (S.faults input.new) (K.faults output.old) (K.faults output.new)) result }
+
+    // ---- `restore`
+
+    // With `Ok` the bytes are a backup file, and the output took the text of a schedule. After the run of that schedule the one
+    // copy of the data has exactly the objects of the file. With each other status what was written by then, and which
+    // status comes.
+    ensures restores { Names Command.Restore words.now
+        → (bytes before : List ℕ) → S.left input.old ≡ Some bytes → K.held output.old ≡ Some before
+        → Restored bytes before (S.left input.new) (K.held output.new)
         (Quiet (S.faults input.old) (S.faults input.new) (K.faults output.old) (K.faults output.new)) result }
 
     // ---- `gen` and `soak`

@@ -6,6 +6,7 @@ use audit_core::AuditStop;
 use judge::Verdict;
 use quorum_config::QuorumStop;
 use replay_core::ReplayStop;
+use restore_core::RestoreStop;
 use std::fmt::{self, Display, Formatter};
 use text_words::Reason;
 use workload::GenStop;
@@ -26,6 +27,8 @@ pub enum Status {
     BadTrace(u32),
     /// This line of the input of the quorum store, from 1, is the first outside the grammar.
     BadQuorum(u32),
+    /// This line of the backup file, from 1, is the first that may not stand in one, or is missing.
+    BadBackup(u32),
     /// Reading failed.
     ReadFault,
     /// Writing failed.
@@ -44,7 +47,10 @@ impl Status {
             Status::Ok => 0,
             Status::Incorrect => 1,
             Status::BadWords => 2,
-            Status::Bad { .. } | Status::BadTrace(_) | Status::BadQuorum(_) => 3,
+            Status::Bad { .. }
+            | Status::BadTrace(_)
+            | Status::BadQuorum(_)
+            | Status::BadBackup(_) => 3,
             Status::ReadFault => 4,
             Status::WriteFault => 5,
             Status::OutOfMemory => 6,
@@ -131,6 +137,22 @@ impl From<GenStop> for Status {
     }
 }
 
+impl From<RestoreStop> for Status {
+    ghost use Rattle.std.specs.Prelude.{◌≡◌};
+    ghost use Rattle.tcs_run.specs.Status.{status_of_restore};
+
+    ghost from_gives = { λ stop status. status ≡ status_of_restore stop };
+
+    fn from(stop: RestoreStop) -> Status {
+        match stop {
+            RestoreStop::BadBackup(line) => Status::BadBackup(line),
+            RestoreStop::ReadFault => Status::ReadFault,
+            RestoreStop::WriteFault => Status::WriteFault,
+            RestoreStop::OutOfMemory => Status::OutOfMemory,
+        }
+    }
+}
+
 impl Display for Status {
     ghost use Rattle.std.specs.Prelude.{Some};
     ghost use Rattle.tcs_run.specs.Status.{status_text};
@@ -145,6 +167,7 @@ impl Display for Status {
             Status::Bad { line, reason } => write!(f, "bad line {line}: {reason}"),
             Status::BadTrace(line) => write!(f, "bad trace line {line}"),
             Status::BadQuorum(line) => write!(f, "bad quorum line {line}"),
+            Status::BadBackup(line) => write!(f, "bad backup line {line}"),
             Status::ReadFault => f.write_str("read fault"),
             Status::WriteFault => f.write_str("write fault"),
             Status::OutOfMemory => f.write_str("out of memory"),

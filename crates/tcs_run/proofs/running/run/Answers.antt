@@ -1,6 +1,6 @@
 -- Words that name a command name no other, so that what is said of the others is said of no run.
 use Rattle.std.proofs.Common.{sym, inl, inr}
-use Rattle.tcs_run.specs.declared.command.Command.TheVariants.{Replay, Audit, Quorum, Totals, Generate, Soak}
+use Rattle.tcs_run.specs.declared.command.Command.TheVariants.{Replay, Audit, Quorum, Totals, Restore, Generate, Soak}
 use Rattle.tcs_run.proofs.Naming.{one_command, no_command}
 use Rattle.tcs_run.proofs.running.run.Goals as goal
 
@@ -18,6 +18,9 @@ returns-in-None-clause-stores g c = λ named. absurd (no_command Quorum c.args.w
 
 pub returns-in-None-clause-totals : goal.returns-in-None-clause-totals
 returns-in-None-clause-totals g c = λ named. absurd (no_command Totals c.args.words.now (sym c.in-None.ensures) named)
+
+pub returns-in-None-clause-restores : goal.returns-in-None-clause-restores
+returns-in-None-clause-restores g c = λ named. absurd (no_command Restore c.args.words.now (sym c.in-None.ensures) named)
 
 pub returns-in-None-clause-generates : goal.returns-in-None-clause-generates
 returns-in-None-clause-generates g c = λ numbers named. absurd (no_command (Generate numbers) c.args.words.now (sym c.in-None.ensures) named)
@@ -49,6 +52,9 @@ returns-in-Some-clause-stores g c = λ named. c.perform.ensures.stores (one_comm
 
 pub returns-in-Some-clause-totals : goal.returns-in-Some-clause-totals
 returns-in-Some-clause-totals g c = λ named. c.perform.ensures.totals (one_command c.in-Some.command Totals c.args.words.now (sym c.in-Some.ensures) named)
+
+pub returns-in-Some-clause-restores : goal.returns-in-Some-clause-restores
+returns-in-Some-clause-restores g c = λ named. c.perform.ensures.restores (one_command c.in-Some.command Restore c.args.words.now (sym c.in-Some.ensures) named)
 
 pub returns-in-Some-clause-generates : goal.returns-in-Some-clause-generates
 returns-in-Some-clause-generates g c = λ numbers named.
