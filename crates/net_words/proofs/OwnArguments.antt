@@ -1,5 +1,5 @@
 -- The arguments of a command with the program's definition.
-use Rattle.std.proofs.Common.{◌≡◌, ◌⊎◌, ◌∙◌, ◌<◌, ◌≤◌, ◌&&◌, ap, sym, subst, refl, inl, inr, arith, ℕ, zero, suc, Bool, true, false, not, List, [], ◌∷◌, map, length, is_some, Option, Some, None, codes, rules}
+use Rattle.std.proofs.Common.{◌≡◌, ◌⊎◌, ◌∙◌, ◌<◌, ◌≤◌, ◌&&◌, ap, sym, subst, refl, inl, inr, arith, ℕ, zero, suc, Bool, true, false, not, List, [], ◌∷◌, map, length, is_some, true≢false, Option, Some, None, codes}
 use Rattle.std.specs.Prelude.{if◌then◌else◌}
 use Rattle.std.specs.List.{All, slice_index_or}
 use Rattle.std.specs.Str.{bytes_eq}
@@ -7,12 +7,13 @@ use Rattle.std.proofs.lemmas.List.{length-map}
 use Rattle.std.proofs.lemmas.Slice.Eq.{bytes_eq-Decides}
 use Rattle.clap.specs.Facts.{args_of, groups_of, least_values, unwrap_or_range}
 use Rattle.clap.specs.Built.{IsAuto, IsPlain, IsPlainArg}
-use Rattle.clap.specs.Walk.{Rule, Text, is_free_arg, is_simple_arg, rule_of}
+use Rattle.clap.specs.Walk.{Rule, Text, is_empty, is_free_arg, is_simple_arg, rule_of}
 use Rattle.clap.specs.Simple.{App, app_of}
 use Rattle.clap.specs.declared.builder.action.ArgAction.TheVariants.{Set}
 use Rattle.clap.specs.declared.builder.arg.Arg.{Arg}
 use Rattle.clap.specs.declared.builder.command.Command.{Command}
 use Rattle.clap.specs.declared.builder.command.Command.TheViews.{out-Command}
+use Rattle.clap.specs.declared.builder.range.ValueRange.{ValueRange}
 use Rattle.clap.specs.declared.builder.value_parser.ValueParser.{ValueParser}
 use Rattle.clap.proofs.SimpleLemmas.{is_false, is_nil}
 use Rattle.clap.proofs.WalkLemmas.{both}
@@ -23,10 +24,21 @@ use Rattle.net_words.proofs.GivenValues.{IsOwn}
 
 none_of : {X : Type 0} (o : Option X) → not (is_some o) ≡ true → o ≡ None
 none_of None h = refl
-none_of (Some x) h = cc
+none_of (Some x) h = absurd (true≢false (sym h))
 
-no_delimiter : (a : Arg) → is_simple_arg a ≡ true → a.val_delim ≡ None
-no_delimiter a h = none_of _ (both _ _ (both _ _ (both _ _ (both _ _ h).1).1).1).0
+-- a simple argument splits no value, and is of its own command alone
+pub simple_parts : (a : Arg) → is_simple_arg a ≡ true → (a.val_delim ≡ None) × (a.global ≡ false)
+simple_parts a simple =
+    let ifs = both (is_empty a.overrides.items) _ simple in
+    let groups = both (is_empty a.default_vals_ifs.items) _ ifs.1 in
+    let delimiter = both (is_empty a.groups.items) _ groups.1 in
+    let terminator = both (not (is_some a.val_delim)) _ delimiter.1 in
+    let hyphens = both (not (is_some a.terminator)) _ terminator.1 in
+    let negatives = both (not a.allow_hyphen_values) _ hyphens.1 in
+    let equals = both (not a.allow_negative_numbers) _ negatives.1 in
+    let last = both (not a.require_equals) _ equals.1 in
+    let local = both (not a.last) _ last.1 in
+    (none_of _ terminator.0, is_false _ local.1)
 
 plain_arg : (a : Arg) → is_simple_arg a ≡ true → is_free_arg a ≡ true → IsPlainArg a
 plain_arg a simple free =
@@ -102,7 +114,7 @@ module _ (old : Command) (q0 q1 q2 q3 : ValueParser) (is : app_of old ≡ with_p
 
   pub excludes_nothing : IsPlain old
   excludes_nothing = (
-    λ k d lt. let plain = plain_at k d (rw (← count) lt) in plain_arg _ plain.simple plain.free,
+    λ k d lt. let plain = plain_at k d (rw (← count) lt) in plain_arg (slice_index_or (args_of old) k d) plain.simple plain.free,
     is_nil _ (both _ _ (ap (λ (a : App). a.top.is_plain) is)).0,
   )
 
@@ -125,8 +137,8 @@ module _ (old : Command) (q0 q1 q2 q3 : ValueParser) (is : app_of old ≡ with_p
               absurd (omega arith)
         ];
         action = plain.action;
-        delimiter = no_delimiter _ plain.simple;
-        least = rw plain.range (omega arith);
+        delimiter = (simple_parts (slice_index_or (args_of old) k d) plain.simple).0;
+        least = subst (λ (range : Option ValueRange). 1 ≤ (unwrap_or_range range).start_inclusive) (sym plain.range) (omega arith);
         parser = ap (λ (r : Rule). r.parser) (rule_is k d) ∙ parser;
         case = plain.case;
       }
