@@ -1,3 +1,4 @@
+pub mod ModeNames
 pub mod GivenValues
 pub mod OwnArguments
 pub mod NumbersRead

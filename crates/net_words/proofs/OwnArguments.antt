@@ -126,7 +126,7 @@ module _ (old : Command) (q0 q1 q2 q3 : ValueParser) (is : app_of old ≡ with_p
         lt = rw count lt;
         unique = λ j e low same.
             let there = place_is j e (rw (← count) low) in
-            sym there ∙ (ap place ((bytes_eq-Decides _ _).0 same) ∙ here);
+            sym there ∙ (ap place ((bytes_eq-Decides (slice_index_or (args_of old) j e).id.now (slice_index_or (args_of old) k d).id.now).0 same) ∙ here);
         named = λ none. let bad : k ≡ 4 = sym here ∙ ap place none in absurd (omega arith);
         own = λ auto. elim auto [
           | inl help ↦
