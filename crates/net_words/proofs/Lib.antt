@@ -2,6 +2,8 @@ pub mod ModeNames
 pub mod GivenValues
 pub mod OwnArguments
 pub mod NumbersRead
+pub mod SolidText
+pub mod SolidWords
 pub mod PlainForm
 pub mod PlainAnswers
 pub mod ReadableMatches
