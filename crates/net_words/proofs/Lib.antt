@@ -7,3 +7,4 @@ pub mod SolidWords
 pub mod PlainForm
 pub mod PlainAnswers
 pub mod ReadableMatches
+pub mod Answered
