@@ -19,14 +19,11 @@ use Rattle.net_words.specs.declared.mode.Mode.TheVariants.{Cluster, Node, Guard}
 use Rattle.net_words.specs.declared.refusal.Refusal.{Refusal}
 use Rattle.net_words.specs.declared.refusal.Refusal.TheVariants.{BadWords, Shown, OutOfMemory}
 use Rattle.net_words.specs.declared.request.Request.{Request}
-use Rattle.net_words.proofs.PlainForm.{IsSolid, Solid, decimal_is_solid, decimal_passes, no_fault, passes, rows_hold, solid_words, text_of, written}
+use Rattle.net_words.proofs.ModeNames.{same_mode}
+use Rattle.net_words.proofs.PlainForm.{no_fault, passes, read_with, rows_hold, solid_words, written}
+use Rattle.net_words.proofs.SolidText.{Solid, as_written, decimal_is_solid, decimal_passes, mode_is_solid, number_is, text_of}
 
 -- ---- a mode
-
-mode_is_solid : (mode : Mode) → IsSolid (mode_word mode)
-mode_is_solid Cluster = (record { first = 53; rest = codes "luster" }, refl)
-mode_is_solid Node = (record { first = 64; rest = codes "ode" }, refl)
-mode_is_solid Guard = (record { first = 57; rest = codes "uard" }, refl)
 
 mode_is_known : (mode : Mode) → list_any (λ t. bytes_eq t (mode_word mode)) mode_words ≡ true
 mode_is_known Cluster = refl
@@ -37,23 +34,13 @@ mode_passes : (modes : Lent mode_words) (mode : Mode) → accepts false (Names m
 mode_passes modes mode =
     list_any-map (λ t. bytes_eq t (mode_word mode)) (λ s. s.now) modes.list.now ∙ (ap (list_any (λ t. bytes_eq t (mode_word mode))) modes.are ∙ mode_is_known mode)
 
-pub named_again : (mode : Mode) → mode_in (mode_word mode) ≡ Some mode
-named_again Cluster = refl
-named_again Node = refl
-named_again Guard = refl
-
-same_mode : (a b : Mode) → mode_word a ≡ mode_word b → a ≡ b
-same_mode a b same =
-    let both_named : Some a ≡ Some b = sym (named_again a) ∙ (ap mode_in same ∙ named_again b) in
-    ap (λ (o : Option Mode). unwrap_or o a) both_named
-
 -- ---- an option
 
 record IsWritten (name : Text) (least most otherwise : ℕ) (o : Option ℕ) : Type 0 where
   solid : Option Solid
   words : option_words name o ≡ written name solid
   ok : passes (numbers least most) solid ≡ true
-  value : number_or (option_map (λ s. text_of s) solid) otherwise ≡ unwrap_or o otherwise
+  value : number_or (read_with (numbers least most) solid) otherwise ≡ unwrap_or o otherwise
 
 option_is_written : (name : Text) (least most otherwise : ℕ) (o : Option ℕ) → most < 2 ^ 63 → least ≤ unwrap_or o otherwise → unwrap_or o otherwise ≤ most
     → IsWritten name least most otherwise o
@@ -65,7 +52,7 @@ option_is_written name least most otherwise (Some n) small low high =
       solid = Some s.0;
       words = ap (λ (t : Text). name ∷ t ∷ []) s.1;
       ok = subst (λ (t : Text). accepts false (numbers least most) t ≡ true) s.1 (decimal_passes least most n small low high);
-      value = ap (digits_value 10) (sym s.1) ∙ (decimal_is_IsNumeral n n_small).1;
+      value = ap number_in (as_written s.0) ∙ (number_is s.0 ∙ (ap (digits_value 10) (sym s.1) ∙ (decimal_is_IsNumeral n n_small).1));
     }
 
 -- ---- the answer
@@ -103,13 +90,13 @@ module _ (modes : Lent mode_words) (p : Plain) (ranges : IsInRange (plain_reques
   holds_it : (r : Request) → Holds (matches_of (definition modes) (plain_words p)) r → r ≡ plain_request p
   holds_it r h =
       let rows = rows_hold (Names modes.list) (numbers 0 64) (numbers 1024 65000) (numbers 1 1000000) (mode_is_solid p.mode).0 mode_ok
-      id_written.solid port_written.solid miss_written.solid in
+      id_written.solid port_written.solid miss_written.solid id_written.ok port_written.ok miss_written.ok in
       let there : Holds (matches_of (definition modes) solid_of_it) r = subst (λ (ws : List Text). Holds (matches_of (definition modes) ws) r) words_are h in
-      let mode : Some (mode_word p.mode) ≡ Some (mode_word r.mode) = ap (λ (t : Text). Some t) (mode_is_solid p.mode).1 ∙ (sym rows.0 ∙ there.mode) in
+      let mode : Some (mode_word p.mode) ≡ Some (mode_word r.mode) = ap (λ (t : Text). Some t) (mode_is_solid p.mode).1 ∙ (sym rows.mode ∙ there.mode) in
       same_request p r (ap (λ (o : Option Text). unwrap_or o []) mode)
-      (there.id ∙ (ap (λ (o : Option Text). number_or o 0) rows.1 ∙ id_written.value))
-      (there.port ∙ (ap (λ (o : Option Text). number_or o 47000) rows.2 ∙ port_written.value))
-      (there.miss ∙ (ap (λ (o : Option Text). number_or o 100) rows.3 ∙ miss_written.value))
+      (there.id ∙ (ap (λ (o : Option Text). number_or o 0) rows.id ∙ id_written.value))
+      (there.port ∙ (ap (λ (o : Option Text). number_or o 47000) rows.port ∙ port_written.value))
+      (there.miss ∙ (ap (λ (o : Option Text). number_or o 100) rows.miss ∙ miss_written.value))
 
   refused_for_memory : (e : Refusal) → Refuses (fault_of (definition modes) (plain_words p)) e → e ≡ OutOfMemory
   refused_for_memory BadWords h = absurd (rw none_fails at h).1

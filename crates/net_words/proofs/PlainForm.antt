@@ -24,6 +24,10 @@ abbrev pub passes : ValueParser → Option Solid → Bool
 passes q None = true
 passes q (Some s) = accepts false q (text_of s)
 
+-- what is read of an option's value
+abbrev pub read_with : ValueParser → Option Solid → Option Text
+read_with q = option_map (λ s. read_as (reading_of q) (text_of s))
+
 abbrev pub solid_words : Solid → Option Solid → Option Solid → Option Solid → List Text
 solid_words mode id port miss =
     text_of mode ∷ (written (codes "--id") id ++ (written (codes "--port") port ++ written (codes "--miss") miss))
@@ -194,9 +198,6 @@ module _ (q0 q1 q2 q3 : ValueParser) where
           ∙ (ap (λ (ks : Kinds). or_else ks (faults_behind (walk_at (last a b c)))) (all_quiet a b c ok1 ok2 ok3) ∙ none_behind a b c)
 
       -- ---- the matches
-
-      abbrev pub read_with : ValueParser → Option Solid → Option Text
-      read_with q = option_map (λ s. read_as (reading_of q) (text_of s))
 
       pub record RowsHold (rows : List Row) (a b c : Option Solid) : Type 0 where
         pub mode : first_of (codes "mode") rows ≡ Some (text_of m)
