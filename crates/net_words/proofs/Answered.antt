@@ -1,9 +1,9 @@
 -- What the program answers, from what `clap` answers.
 use Rattle.std.proofs.Common.{◌≡◌, ◌∙◌, ◌⊎◌, ap, subst, sym, inl, inr, refl, List, [], ◌∷◌, Option, Some, None, Result}
-use Rattle.std.specs.Prelude.{MatchResult, IsSomeAnd, codes, ok_or}
+use Rattle.std.specs.Prelude.{Ok, Err, MatchResult, IsErrAnd, IsSomeAnd, codes, ok_or}
 use Rattle.std.specs.Borrow.{Bor}
 use Rattle.clap.specs.Kinds.{IsAmong, Kinds}
-use Rattle.clap.specs.Words.{Row, Text, fault_of, matches_of}
+use Rattle.clap.specs.Words.{App, Row, Text, fault_of, matches_of}
 use Rattle.clap.specs.declared.error.kind.ErrorKind.{ErrorKind}
 use Rattle.clap.specs.declared.error.kind.ErrorKind.TheVariants as kind
 use Rattle.net_words.specs.Definition.{Lent, definition, mode_words}
@@ -22,6 +22,12 @@ refuses k kinds (Shown text) comes (inl memory) =
     cc
 refuses k kinds (Shown text) comes (inr among) = (k, among, comes)
 refuses k kinds OutOfMemory comes has = tt
+
+-- so it is where memory ran out
+pub no_memory : (command : App) (words : List Text) (result : Result Request Refusal) → IsErrAnd result (λ e. e ≡ OutOfMemory)
+    → MatchResult result (Asks command words) (Refuses (fault_of command words))
+no_memory command words (Ok r) h = absurd h
+no_memory command words (Err e) h = rw h tt
 
 -- what was read of the matches is what was asked
 pub asks : (modes : Lent mode_words) (words : List Text) (rows : List Row) (read : Option Request) (result : Result Request Refusal)
