@@ -1,12 +1,12 @@
 -- The arguments of a command with the program's definition.
-use Rattle.std.proofs.Common.{◌≡◌, ◌⊎◌, ◌∙◌, ◌<◌, ◌≤◌, ◌&&◌, ap, sym, subst, refl, inl, inr, arith, ℕ, zero, suc, Bool, true, false, not, List, [], ◌∷◌, map, length, is_some, true≢false, Option, Some, None, codes}
+use Rattle.std.proofs.Common.{◌≡◌, ◌∙◌, ◌<◌, ◌≤◌, ap, sym, subst, refl, inl, inr, arith, ℕ, zero, suc, true, false, not, List, [], ◌∷◌, map, length, is_some, true≢false, Option, Some, None, codes}
 use Rattle.std.specs.Prelude.{if◌then◌else◌}
-use Rattle.std.specs.List.{All, slice_index_or}
+use Rattle.std.specs.List.{slice_index_or}
 use Rattle.std.specs.Str.{bytes_eq}
 use Rattle.std.proofs.lemmas.List.{length-map}
 use Rattle.std.proofs.lemmas.Slice.Eq.{bytes_eq-Decides}
-use Rattle.clap.specs.Facts.{args_of, groups_of, least_values, unwrap_or_range}
-use Rattle.clap.specs.Built.{IsAuto, IsPlain, IsPlainArg}
+use Rattle.clap.specs.Facts.{args_of, unwrap_or_range}
+use Rattle.clap.specs.Built.{IsPlain, IsPlainArg}
 use Rattle.clap.specs.Walk.{Rule, Text, is_empty, is_free_arg, is_simple_arg, rule_of}
 use Rattle.clap.specs.Simple.{App, app_of}
 use Rattle.clap.specs.declared.builder.action.ArgAction.TheVariants.{Set}

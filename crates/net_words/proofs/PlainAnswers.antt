@@ -1,19 +1,19 @@
 -- Exact answers are right at words in plain form.
-use Rattle.std.proofs.Common.{◌≡◌, ◌∙◌, ◌<◌, ◌≤◌, ◌^◌, ◌++◌, ap, ap₂, sym, subst, refl, arith, ℕ, Bool, true, false, List, [], ◌∷◌, Option, Some, None, codes}
-use Rattle.std.specs.Prelude.{Ok, Err, Result, MatchResult, decimal, option_map, unwrap_or}
+use Rattle.std.proofs.Common.{◌≡◌, ◌∙◌, ◌<◌, ◌≤◌, ◌^◌, ◌++◌, ap, ap₂, sym, subst, refl, arith, ℕ, true, false, List, [], ◌∷◌, Option, Some, None, codes}
+use Rattle.std.specs.Prelude.{Ok, Err, Result, unwrap_or}
 use Rattle.std.specs.Str.{bytes_eq}
 use Rattle.std.specs.Str.Parse.{digits_value}
 use Rattle.std.proofs.lemmas.Fmt.{decimal_is_IsNumeral}
 use Rattle.clap.specs.ValueTests.{accepts}
 use Rattle.clap.specs.Walk.{Text}
-use Rattle.clap.specs.Words.{fault_of, first_of, matches_of, one_of}
+use Rattle.clap.specs.Words.{fault_of, matches_of}
 use Rattle.clap.specs.declared.builder.value_parser.ValueParser.TheVariants.{Names}
 use Rattle.clap.proofs.WalkLemmas.{list_any-map}
 use Rattle.std.specs.List.{list_any}
 use Rattle.net_words.specs.Definition.{Lent, definition, mode_words, numbers}
-use Rattle.net_words.specs.Modes.{mode_in, mode_word}
+use Rattle.net_words.specs.Modes.{mode_word}
 use Rattle.net_words.specs.Refusals.{Refuses}
-use Rattle.net_words.specs.Requests.{Answers, Asks, Holds, IsInRange, Plain, TakesPlain, number_in, number_or, option_words, plain_request, plain_words}
+use Rattle.net_words.specs.Requests.{Answers, Holds, IsInRange, Plain, TakesPlain, number_in, number_or, option_words, plain_request, plain_words}
 use Rattle.net_words.specs.declared.mode.Mode.{Mode}
 use Rattle.net_words.specs.declared.mode.Mode.TheVariants.{Cluster, Node, Guard}
 use Rattle.net_words.specs.declared.refusal.Refusal.{Refusal}

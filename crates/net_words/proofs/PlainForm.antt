@@ -1,12 +1,12 @@
 -- What `clap` makes of words in plain form, whatever the parsers are.
-use Rattle.std.proofs.Common.{◌≡◌, ◌∙◌, ◌++◌, ap, ap₂, sym, subst, refl, ℕ, Bool, true, false, List, [], ◌∷◌, Option, Some, None, is_some, codes}
+use Rattle.std.proofs.Common.{◌≡◌, ◌∙◌, ◌++◌, ap, ap₂, sym, subst, refl, Bool, true, false, List, [], ◌∷◌, Option, Some, None, is_some, codes}
 use Rattle.std.specs.Prelude.{option_map, if◌then◌else◌}
 use Rattle.clap.specs.Faults.{check_fault, defaults_fault, entered_fault, settle_fault, step_fault, turn_fault}
 use Rattle.clap.specs.Kinds.{Kinds, or_else, values_kinds}
 use Rattle.clap.specs.Simple.{App, Shape, built, entered}
 use Rattle.clap.specs.Values.{read_as, reading_of, refused_kind}
 use Rattle.clap.specs.ValueTests.{accepts}
-use Rattle.clap.specs.Walk.{Held, Row, Rule, Step, Walk, after_step, finished, idle, nothing_held, option, plain_word, settled, settled_rows, walk_from, walked}
+use Rattle.clap.specs.Walk.{Held, Row, Step, Walk, after_step, finished, idle, nothing_held, option, plain_word, settled, settled_rows, walk_from, walked}
 use Rattle.clap.specs.Words.{Text, fault_of, first_of, matches_of, one_of}
 use Rattle.clap.specs.declared.builder.value_parser.ValueParser.{ValueParser}
 use Rattle.clap.proofs.OnLiterals.{clap_on_literals}

@@ -1,6 +1,6 @@
 -- Texts that begin with no sign, as the words of modes and the numerals do.
-use Rattle.std.proofs.Common.{◌≡◌, ◌∙◌, ◌+◌, ◌<◌, ◌≤◌, ◌^◌, ◌++◌, ◌%◌, ap, sym, subst, refl, arith, ℕ, Bool, true, false, List, [], ◌∷◌, drop, cond, Option, Some, None, codes, ne_eqb}
-use Rattle.std.specs.Prelude.{◌==◌, decimal, neg_ℤ, pos, FitsSigned, if◌then◌else◌, unwrap_or}
+use Rattle.std.proofs.Common.{◌≡◌, ◌∙◌, ◌+◌, ◌<◌, ◌≤◌, ◌^◌, ◌++◌, ◌%◌, ap, sym, subst, refl, arith, ℕ, Bool, true, false, [], ◌∷◌, drop, cond, Option, Some, None, codes, ne_eqb}
+use Rattle.std.specs.Prelude.{◌==◌, decimal, neg_ℤ, pos, if◌then◌else◌, unwrap_or}
 use Rattle.std.specs.Str.Parse.{IsNumeral, digits_value, signed_digits_value, without_leading_plus, without_leading_sign}
 use Rattle.std.proofs.lemmas.Fmt.{decimal_by_steps, decimal_is_IsNumeral}
 use Rattle.std.proofs.lemmas.Int.{ints}

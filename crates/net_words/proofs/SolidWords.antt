@@ -1,13 +1,13 @@
 -- What the walk over words makes of a word that begins with no hyphen.
-use Rattle.std.proofs.Common.{◌≡◌, ◌∙◌, ◌&&◌, ap, ap₂, refl, ℕ, Bool, true, false, List, [], ◌∷◌, Option, Some, None}
+use Rattle.std.proofs.Common.{◌≡◌, ◌∙◌, ◌&&◌, ap, ap₂, refl, ℕ, Bool, false, List, [], ◌∷◌, Option, None}
 use Rattle.std.specs.Prelude.{if◌then◌else◌, option_and_then, fold}
 use Rattle.std.specs.Option.{option_map_or}
 use Rattle.std.specs.Str.{bytes_eq}
 use Rattle.clap.specs.Lexer.{long_of, long_of_rest, short_of, short_of_rest, strip_byte}
 use Rattle.clap.specs.Faults.{bundle_fault, flag_word_fault, other_fault, turn_fault, walk_fault, word_fault}
-use Rattle.clap.specs.Kinds.{Kinds, or_else}
+use Rattle.clap.specs.Kinds.{or_else}
 use Rattle.clap.specs.Simple.{Shape}
-use Rattle.clap.specs.Walk.{Held, Rule, Step, Text, Waiting, Walk, idle, long_or_other, option, plain_word, positional, short_or_plain, subcommand_met, subcommand_or_other, trailing, walked, word_met}
+use Rattle.clap.specs.Walk.{Held, Rule, Text, Waiting, Walk, idle, long_or_other, option, plain_word, positional, short_or_plain, subcommand_met, subcommand_or_other, trailing, walked, word_met}
 use Rattle.net_words.proofs.SolidText.{Solid, no_strip, text_of}
 
 no_subcommand : (waiting : Waiting) (word : Text) → subcommand_met [] waiting word ≡ None

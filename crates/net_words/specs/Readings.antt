@@ -1,5 +1,5 @@
 -- What matches have to hold for a request to be read of them.
-use Rattle.std.specs.Prelude.{◌≡◌, ◌⊎◌, ℕ, List, Some, None, codes, pos}
+use Rattle.std.specs.Prelude.{◌≡◌, ◌⊎◌, ℕ, Some, None, codes, pos}
 use Rattle.clap.specs.Words.{IsSignedIn, Text, first_value, one_text, without_minus}
 use Rattle.clap.specs.declared.parser.matches.Found.{Found}
 use Rattle.net_words.specs.Modes.{mode_word}

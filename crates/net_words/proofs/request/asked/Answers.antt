@@ -1,6 +1,5 @@
-use Rattle.std.proofs.Common.{◌≡◌, ◌∙◌, ap, rules, sym, codes, Option, Some}
-use Rattle.std.specs.Prelude.{option_map}
-use Rattle.clap.specs.Words.{found_of, one_text, rows_of}
+use Rattle.std.proofs.Common.{◌≡◌, ◌∙◌, ap, rules, sym, codes, Some}
+use Rattle.clap.specs.Words.{found_of}
 use Rattle.clap.proofs.WalkLemmas.{first_value-rows, one_text-rows}
 use Rattle.net_words.specs.Modes.{mode_in}
 use Rattle.net_words.specs.Requests.{number_or}
