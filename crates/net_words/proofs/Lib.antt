@@ -1,7 +1,6 @@
 pub mod ModeNames
 pub mod GivenValues
 pub mod OwnArguments
-pub mod NumbersRead
 pub mod SolidText
 pub mod SolidWords
 pub mod PlainForm
