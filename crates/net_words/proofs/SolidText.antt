@@ -28,20 +28,26 @@ abbrev pub IsSolid : Text → Type 0
 IsSolid t = (s : Solid) × (t ≡ text_of s)
 
 solid : (first : ℕ) (rest : Text) → 45 < first → IsSolid (first ∷ rest)
-solid first rest high = (record {
-  first = first;
-  rest = rest;
-  no_minus = ne_eqb first 45 (λ e. omega arith);
-  no_plus = ne_eqb first 43 (λ e. omega arith);
-}, refl)
+solid first rest high = (
+  record {
+    first = first;
+    rest = rest;
+    no_minus = ne_eqb first 45 (λ e. omega arith);
+    no_plus = ne_eqb first 43 (λ e. omega arith);
+  },
+  refl,
+)
 
 longer : (t u : Text) → IsSolid t → IsSolid (t ++ u)
-longer t u s = (record {
-  first = s.0.first;
-  rest = s.0.rest ++ u;
-  no_minus = s.0.no_minus;
-  no_plus = s.0.no_plus;
-}, ap (λ (w : Text). w ++ u) s.1)
+longer t u s = (
+  record {
+    first = s.0.first;
+    rest = s.0.rest ++ u;
+    no_minus = s.0.no_minus;
+    no_plus = s.0.no_plus;
+  },
+  ap (λ (w : Text). w ++ u) s.1,
+)
 
 pub decimal_is_solid : (n : ℕ) → n < 2 ^ 64 → IsSolid (decimal n)
 decimal_is_solid n small = decimal_by_steps (λ k t. IsSolid t)

@@ -17,7 +17,7 @@ returns c =
     let plain : app_of c.no_binary_name.result ≡ on_top (λ s. record s { no_binary_name = true }) (app_of c.version.result) = ap app_of_fields c.no_binary_name.ensures in
     let told : app_of c.about.result ≡ app_of c.no_binary_name.result = ap app_of_fields c.about.ensures in
     let bare_is : app_of c.about.result ≡ bare = told ∙ (plain ∙ ap (on_top (λ s. record s { no_binary_name = true })) (named
-        ∙ ap (on_top (λ s. record s { has_version = true })) c.new.ensures.app)) in
+    ∙ ap (on_top (λ s. record s { has_version = true })) c.new.ensures.app)) in
     let with_mode = c.in_ok-arg.ensures.shape (is_local c.mode.result _ mode.1 refl) ∙ ap₂ with_rule bare_is mode.1 in
     let with_id = c.in_ok-arg-2.ensures.shape (is_local c.id.result _ c.id.ensures.rule refl) ∙ ap₂ with_rule with_mode c.id.ensures.rule in
     let with_port = c.in_ok-arg-3.ensures.shape (is_local c.port.result _ c.port.ensures.rule refl) ∙ ap₂ with_rule with_id c.port.ensures.rule in

@@ -15,9 +15,11 @@ returns-in-Ok-clause-answers c =
     let is : app_of c.in_ok-command.command ≡ definition modes = c.in_ok-command.ensures.1 in
     let words = map string_bytes c.args.words.now in
     let taken = ap (λ (a : App). fault_of a words) (sym is) ∙ c.in-Ok.ensures.kinds (ap is_simple_and_free is) in
-    let rows = (c.in-Ok.ensures.matches (ap is_simple is)).0 ∙ ap (λ (a : App). matches_of a words) is in
-    (modes, asks modes words _ c.asked.result c.ok_or.result taken rows
-    (c.asked.ensures (readable c.in_ok-command.command c.in-Ok.matches modes is c.in-Ok.ensures.parsed)) c.ok_or.ensures.value)
+    let rows = (c.in-Ok.ensures.matches (ap is_simple is)).0 ∙ ap (λ (a : App). matches_of a words) is in (
+      modes,
+      asks modes words _ c.asked.result c.ok_or.result taken rows
+          (c.asked.ensures (readable c.in_ok-command.command c.in-Ok.matches modes is c.in-Ok.ensures.parsed)) c.ok_or.ensures.value,
+    )
 
 pub returns-in-Ok-clause-plain : goal.returns-in-Ok-clause-plain
 returns-in-Ok-clause-plain c = plain_answers _ _ (returns-in-Ok-clause-answers c)
