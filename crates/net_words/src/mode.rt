@@ -1,6 +1,6 @@
 //! What the program runs.
-ghost use Rattle.std.specs.Prelude.{◌≡◌};
-ghost use Rattle.net_words.specs.Modes.{mode_in};
+ghost use Rattle.std.specs.Prelude.{◌≡◌, Some};
+ghost use Rattle.net_words.specs.Modes.{mode_in, mode_word};
 
 use std::fmt;
 
@@ -33,6 +33,8 @@ impl Mode {
 }
 
 impl fmt::Display for Mode {
+    ghost output = { λ mode. Some (mode_word mode) };
+
     fn fmt<W: fmt::Write>(&self, f: &mut fmt::Formatter<W>) -> fmt::Result {
         f.write_str(match self {
             Mode::Cluster => "cluster",
