@@ -14,7 +14,8 @@ use Rattle.net_words.specs.declared.refusal.Refusal.TheVariants.{BadWords, Shown
 use Rattle.net_words.specs.declared.request.Request.{Request}
 
 -- the refusal is one that the kinds of error lead to
-pub refuses : (k : ErrorKind) (kinds : Kinds) (r : Refusal) → ComesTo k r → (k ≡ kind.OutOfMemory) ⊎ IsAmong k kinds → Refuses kinds r
+pub refuses : (k : ErrorKind) (kinds : Kinds) (r : Refusal) → ComesTo k r
+    → (k ≡ kind.OutOfMemory) ⊎ IsAmong k kinds → Refuses kinds r
 refuses k kinds BadWords comes (inl memory) = absurd (comes.1 memory)
 refuses k kinds BadWords comes (inr among) = (k, among, comes.0)
 refuses k kinds (Shown text) comes (inl memory) =
@@ -24,15 +25,18 @@ refuses k kinds (Shown text) comes (inr among) = (k, among, comes)
 refuses k kinds OutOfMemory comes has = tt
 
 -- so it is where memory ran out
-pub no_memory : (command : App) (words : List Text) (result : Result Request Refusal) → IsErrAnd result (λ e. e ≡ OutOfMemory)
+pub no_memory : (command : App) (words : List Text) (result : Result Request Refusal)
+    → IsErrAnd result (λ e. e ≡ OutOfMemory)
     → MatchResult result (Asks command words) (Refuses (fault_of command words))
 no_memory command words (Ok r) h = absurd h
 no_memory command words (Err e) h = rw h tt
 
 -- what was read of the matches is what was asked
 pub asks : (modes : Lent mode_words) (words : List Text) (rows : List Row) (read : Option Request) (result : Result Request Refusal)
-    → fault_of (definition modes) words ≡ [] → rows ≡ matches_of (definition modes) words → IsSomeAnd read (λ r. Holds rows r × IsInRange r)
-    → result ≡ ok_or read BadWords → MatchResult result (Asks (definition modes) words) (Refuses (fault_of (definition modes) words))
+    → fault_of (definition modes) words ≡ [] → rows ≡ matches_of (definition modes) words
+    → IsSomeAnd read (λ r. Holds rows r × IsInRange r)
+    → result ≡ ok_or read BadWords
+    → MatchResult result (Asks (definition modes) words) (Refuses (fault_of (definition modes) words))
 asks modes words rows None result taken are h is = absurd h
 asks modes words rows (Some r) result taken are h is = rw is (record {
   taken = taken;

@@ -36,12 +36,14 @@ pub record IsOwn (old : Command) (k : ℕ) (d : Arg) (q : ValueParser) : Type 0 
   pub case : (slice_index_or (args_of old) k d).ignore_case ≡ false
 
 -- any built argument with its id has its rules
-same_rules : (old : Command) (m : ArgMatches) (p : IsParsedFrom old m) (k : ℕ) (d : Arg) (q : ValueParser) → IsOwn old k d q
+same_rules : (old : Command) (m : ArgMatches) (p : IsParsedFrom old m) (k : ℕ) (d : Arg) (q : ValueParser)
+    → IsOwn old k d q
     → (P : Arg → Type 0) (any : Any (λ a. (bytes_eq a.id.now (own_id old k d) ≡ true) × P a) (args_of p.built))
     → SameRules (slice_index_or (args_of old) k d) any.1
 same_rules old m p k d q w P any = same_rules_by_id old m p k d w.lt w.unique w.own any.0 any.1 any.2 any.3 any.4.0
 
-accepted : (old : Command) (m : ArgMatches) (p : IsParsedFrom old m) (k : ℕ) (d : Arg) (q : ValueParser) → IsOwn old k d q
+accepted : (old : Command) (m : ArgMatches) (p : IsParsedFrom old m) (k : ℕ) (d : Arg) (q : ValueParser)
+    → IsOwn old k d q
     → (v : List ℕ) → PassesArg p.built (own_id old k d) v → Accepts false q v
 accepted old m p k d q w v any =
     let s = same_rules old m p k d q w (λ a. Accepts a.ignore_case (parser_of a) v) any in
@@ -49,13 +51,15 @@ accepted old m p k d q w v any =
     let as_q : Accepts any.1.ignore_case q v = subst (λ (x : ValueParser). Accepts any.1.ignore_case x v) is_q any.4.1 in
     subst (λ (b : Bool). Accepts b q v) (s.ignore_case ∙ w.case) as_q
 
-read_by : (old : Command) (m : ArgMatches) (p : IsParsedFrom old m) (k : ℕ) (d : Arg) (q : ValueParser) → IsOwn old k d q
+read_by : (old : Command) (m : ArgMatches) (p : IsParsedFrom old m) (k : ℕ) (d : Arg) (q : ValueParser)
+    → IsOwn old k d q
     → (r : Reading) → HasReading p.built (own_id old k d) r → r ≡ reading_of q
 read_by old m p k d q w r any =
     let s = same_rules old m p k d q w (λ a. reading_of (parser_of a) ≡ r) any in
     sym any.4.1 ∙ ap reading_of (ap parser_of_value (s.parser q w.parser))
 
-never_counts : (old : Command) (m : ArgMatches) (p : IsParsedFrom old m) (k : ℕ) (d : Arg) (q : ValueParser) → IsOwn old k d q
+never_counts : (old : Command) (m : ArgMatches) (p : IsParsedFrom old m) (k : ℕ) (d : Arg) (q : ValueParser)
+    → IsOwn old k d q
     → IsCountArg p.built (own_id old k d) → ⊥
 never_counts old m p k d q w any =
     let s = same_rules old m p k d q w (λ a. unwrap_or a.action Set ≡ Count) any in
@@ -63,7 +67,8 @@ never_counts old m p k d q w any =
     let bad : Set ≡ Count = rw is_set at any.4.1 in
     absurd cc
 
-never_empty : (old : Command) (m : ArgMatches) (p : IsParsedFrom old m) (k : ℕ) (d : Arg) (q : ValueParser) → IsOwn old k d q
+never_empty : (old : Command) (m : ArgMatches) (p : IsParsedFrom old m) (k : ℕ) (d : Arg) (q : ValueParser)
+    → IsOwn old k d q
     → AllowsNone p.built (own_id old k d) → ⊥
 never_empty old m p k d q w any =
     let s = same_rules old m p k d q w MayBeEmpty any in
@@ -76,7 +81,8 @@ never_empty old m p k d q w any =
           absurd cc
     ]
 
-no_group : (old : Command) (m : ArgMatches) (p : IsParsedFrom old m) (k : ℕ) (d : Arg) (q : ValueParser) → IsOwn old k d q → groups_of p.built ≡ []
+no_group : (old : Command) (m : ArgMatches) (p : IsParsedFrom old m) (k : ℕ) (d : Arg) (q : ValueParser)
+    → IsOwn old k d q → groups_of p.built ≡ []
     → IsKnownGroup p.built (own_id old k d) → ⊥
 no_group old m p k d q w no_groups (inl empty) = w.named empty
 no_group old m p k d q w no_groups (inr some) =
@@ -89,7 +95,8 @@ pub record HasValues (q : ValueParser) (x : MatchedArg) : Type 0 where
   pub each : All (λ v. Accepts false q v.now) x.vals.items
   pub reading : x.reading ≡ reading_of q
 
-entry_values : (old : Command) (m : ArgMatches) (p : IsParsedFrom old m) (k : ℕ) (d : Arg) (q : ValueParser) → IsOwn old k d q → groups_of p.built ≡ []
+entry_values : (old : Command) (m : ArgMatches) (p : IsParsedFrom old m) (k : ℕ) (d : Arg) (q : ValueParser)
+    → IsOwn old k d q → groups_of p.built ≡ []
     → (e : Entry) → e.0.now ≡ own_id old k d → EntryPasses p.built e → HasValues q e.1
 entry_values old m p k d q w no_groups e key pass =
     let alone : e.1.is_group ≡ true → ⊥ = λ g. no_group old m p k d q w no_groups (subst (λ (u : List ℕ). IsKnownGroup p.built u) key (pass.3 g)) in
@@ -111,12 +118,14 @@ entry_values old m p k d q w no_groups e key pass =
       ];
     }
 
-head_of : (vs : List (Bor (List ℕ))) → 0 < length vs → (v : Bor (List ℕ)) × (slice_get vs 0 ≡ Some v) × (slice_index_or vs 0 v ≡ v)
+head_of : (vs : List (Bor (List ℕ))) → 0 < length vs
+    → (v : Bor (List ℕ)) × (slice_get vs 0 ≡ Some v) × (slice_index_or vs 0 v ≡ v)
 head_of [] lt = absurd (omega arith)
 head_of (v ∷ vs) lt = (v, refl, refl)
 
 -- an argument of the caller's that was met has a first value, which passed its parser and is read as the parser says
-pub given_value : (old : Command) (m : ArgMatches) (p : IsParsedFrom old m) (k : ℕ) (d : Arg) (q : ValueParser) → IsOwn old k d q
+pub given_value : (old : Command) (m : ArgMatches) (p : IsParsedFrom old m) (k : ℕ) (d : Arg) (q : ValueParser)
+    → IsOwn old k d q
     → (out-Command old).has_globals ≡ false → groups_of p.built ≡ []
     → (x : MatchedArg) → matched_of (found_of m) (own_id old k d) ≡ Some x
     → (v : List ℕ) × (first_value (found_of m) (own_id old k d) ≡ Some v)

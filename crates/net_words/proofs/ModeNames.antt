@@ -24,7 +24,8 @@ pub same_mode : (a b : Mode) → mode_word a ≡ mode_word b → a ≡ b
 same_mode a b same = names_it a b (mode_word b) (sym same) (named_again b)
 
 -- the mode that was read is the one that the matches name
-pub holds_mode : (found : Found) (word : Text) (mode : Mode) → NamesMode found → Some word ≡ first_value found (codes "mode") → mode_in word ≡ Some mode
+pub holds_mode : (found : Found) (word : Text) (mode : Mode) → NamesMode found
+    → Some word ≡ first_value found (codes "mode") → mode_in word ≡ Some mode
     → first_value found (codes "mode") ≡ Some (mode_word mode)
 holds_mode found word mode names first named =
     let is : Some word ≡ Some (mode_word names.0) = first ∙ names.1 in

@@ -62,7 +62,8 @@ record IsPlainRule (r : Rule) : Type 0 where
   simple : r.is_simple ≡ true
   free : r.is_free ≡ true
 
-each_is_plain : (q0 q1 q2 q3 : ValueParser) (k : ℕ) (r : Rule) → k < 4 → IsPlainRule (slice_index_or (four_rules q0 q1 q2 q3) k r)
+each_is_plain : (q0 q1 q2 q3 : ValueParser) (k : ℕ) (r : Rule) → k < 4
+    → IsPlainRule (slice_index_or (four_rules q0 q1 q2 q3) k r)
 each_is_plain q0 q1 q2 q3 zero r lt = record { action = refl; range = refl; case = refl; simple = refl; free = refl }
 each_is_plain q0 q1 q2 q3 (suc zero) r lt = record { action = refl; range = refl; case = refl; simple = refl; free = refl }
 each_is_plain q0 q1 q2 q3 (suc (suc zero)) r lt = record { action = refl; range = refl; case = refl; simple = refl; free = refl }
@@ -74,7 +75,8 @@ abbrev place : Text → ℕ
 place id = if bytes_eq id (codes "mode") then 0 else (if bytes_eq id (codes "id") then 1
     else (if bytes_eq id (codes "port") then 2 else (if bytes_eq id (codes "miss") then 3 else 4)))
 
-placed : (q0 q1 q2 q3 : ValueParser) (k : ℕ) (r : Rule) → k < 4 → place (slice_index_or (four_rules q0 q1 q2 q3) k r).id ≡ k
+placed : (q0 q1 q2 q3 : ValueParser) (k : ℕ) (r : Rule) → k < 4
+    → place (slice_index_or (four_rules q0 q1 q2 q3) k r).id ≡ k
 placed q0 q1 q2 q3 zero r lt = refl
 placed q0 q1 q2 q3 (suc zero) r lt = refl
 placed q0 q1 q2 q3 (suc (suc zero)) r lt = refl
@@ -83,7 +85,8 @@ placed q0 q1 q2 q3 (suc (suc (suc (suc k)))) r lt = absurd (omega arith)
 
 -- ---- the arguments of a command that has them
 
-rule_at : (xs : List Arg) (k : ℕ) (d : Arg) → rule_of (slice_index_or xs k d) ≡ slice_index_or (map rule_of xs) k (rule_of d)
+rule_at : (xs : List Arg) (k : ℕ) (d : Arg)
+    → rule_of (slice_index_or xs k d) ≡ slice_index_or (map rule_of xs) k (rule_of d)
 rule_at [] k d = refl
 rule_at (x ∷ xs) zero d = refl
 rule_at (x ∷ xs) (suc k) d = rule_at xs k d
@@ -95,7 +98,8 @@ module _ (old : Command) (q0 q1 q2 q3 : ValueParser) (is : app_of old ≡ with_p
   pub count : length (args_of old) ≡ 4
   count = sym (length-map (args_of old) rule_of) ∙ ap length rules_are
 
-  pub rule_is : (k : ℕ) (d : Arg) → rule_of (slice_index_or (args_of old) k d) ≡ slice_index_or (four_rules q0 q1 q2 q3) k (rule_of d)
+  pub rule_is : (k : ℕ) (d : Arg)
+      → rule_of (slice_index_or (args_of old) k d) ≡ slice_index_or (four_rules q0 q1 q2 q3) k (rule_of d)
   rule_is k d = rule_at (args_of old) k d ∙ ap (λ (rs : List Rule). slice_index_or rs k (rule_of d)) rules_are
 
   place_is : (k : ℕ) (d : Arg) → k < 4 → place (slice_index_or (args_of old) k d).id.now ≡ k
@@ -118,7 +122,8 @@ module _ (old : Command) (q0 q1 q2 q3 : ValueParser) (is : app_of old ≡ with_p
     is_nil _ (both _ _ (ap (λ (a : App). a.top.is_plain) is)).0,
   )
 
-  pub own_argument : (k : ℕ) (d : Arg) (q : ValueParser) → k < 4 → (slice_index_or (four_rules q0 q1 q2 q3) k (rule_of d)).parser ≡ Some q → IsOwn old k d q
+  pub own_argument : (k : ℕ) (d : Arg) (q : ValueParser) → k < 4
+      → (slice_index_or (four_rules q0 q1 q2 q3) k (rule_of d)).parser ≡ Some q → IsOwn old k d q
   own_argument k d q lt parser =
       let plain = plain_at k d lt in
       let here = place_is k d lt in

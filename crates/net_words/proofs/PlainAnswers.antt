@@ -42,7 +42,8 @@ record IsWritten (name : Text) (least most otherwise : ℕ) (o : Option ℕ) : T
   ok : passes (numbers least most) solid ≡ true
   value : number_or (read_with (numbers least most) solid) otherwise ≡ unwrap_or o otherwise
 
-option_is_written : (name : Text) (least most otherwise : ℕ) (o : Option ℕ) → most < 2 ^ 63 → least ≤ unwrap_or o otherwise → unwrap_or o otherwise ≤ most
+option_is_written : (name : Text) (least most otherwise : ℕ) (o : Option ℕ) → most < 2 ^ 63
+    → least ≤ unwrap_or o otherwise → unwrap_or o otherwise ≤ most
     → IsWritten name least most otherwise o
 option_is_written name least most otherwise None small low high = record { solid = None; words = refl; ok = refl; value = refl }
 option_is_written name least most otherwise (Some n) small low high =
@@ -58,7 +59,8 @@ option_is_written name least most otherwise (Some n) small low high =
 -- ---- the answer
 
 -- matches with these values are of the request that was written
-same_request : (p : Plain) (r : Request) → mode_word p.mode ≡ mode_word r.mode → r.id ≡ unwrap_or p.id 0 → r.port ≡ unwrap_or p.port 47000 → r.miss ≡ unwrap_or p.miss 100
+same_request : (p : Plain) (r : Request) → mode_word p.mode ≡ mode_word r.mode → r.id ≡ unwrap_or p.id 0
+    → r.port ≡ unwrap_or p.port 47000 → r.miss ≡ unwrap_or p.miss 100
     → r ≡ plain_request p
 same_request p r mode id port miss = rw (sym (same_mode p.mode r.mode mode)) (rw (id, port, miss) refl)
 
@@ -103,7 +105,8 @@ module _ (modes : Lent mode_words) (p : Plain) (ranges : IsInRange (plain_reques
   refused_for_memory (Shown text) h = absurd (rw none_fails at h).1
   refused_for_memory OutOfMemory h = refl
 
-pub plain_answers : (words : List Text) (result : Result Request Refusal) → Answers words result → TakesPlain words result
+pub plain_answers : (words : List Text) (result : Result Request Refusal) → Answers words result
+    → TakesPlain words result
 plain_answers words (Ok r) answers p ranges is =
     holds_it answers.0 p ranges r (subst (λ (ws : List Text). Holds (matches_of (definition answers.0) ws) r) is answers.1.values)
 plain_answers words (Err e) answers p ranges is =

@@ -107,7 +107,8 @@ module _ (q0 q1 q2 q3 : ValueParser) where
   value_met k p s = ap (λ (met : Held × Step). after_step top.rules (text_of s) (walk_in k p) met.0 met.1)
       (solid_is_plain top.rules (option (id_of k)) 2 s (walk_in k p).held)
 
-  value_step : (k : Key) (p : Place) (s : Solid) → walked top.rules [] (walk_in k p) (text_of s) ≡ walk_at (after k (Some s) p)
+  value_step : (k : Key) (p : Place) (s : Solid)
+      → walked top.rules [] (walk_in k p) (text_of s) ≡ walk_at (after k (Some s) p)
   value_step Id p s = value_met Id p s
   value_step Port p s = value_met Port p s
   value_step Miss p s = value_met Miss p s
@@ -116,7 +117,8 @@ module _ (q0 q1 q2 q3 : ValueParser) where
   value_quiet k p s = ap₂ or_else (solid_is_quiet top (option (id_of k)) s (walk_in k p).held)
       (ap (λ (met : Held × Step). step_fault top 2 met.0 met.1) (solid_is_plain top.rules (option (id_of k)) 2 s (walk_in k p).held))
 
-  option_over : (k : Key) (o : Option Solid) (p : Place) (rest : List Text) (to : Walk) → IsQuiet p → Reaches top (walk_at (after k o p)) rest to
+  option_over : (k : Key) (o : Option Solid) (p : Place) (rest : List Text) (to : Walk) → IsQuiet p
+      → Reaches top (walk_at (after k o p)) rest to
       → Reaches top (walk_at p) (written (word_of k) o ++ rest) to
   option_over k None p rest to quiet behind = behind
   option_over k (Some s) p rest to quiet behind =
@@ -141,14 +143,16 @@ module _ (q0 q1 q2 q3 : ValueParser) where
     mode_quiet = ap₂ or_else (solid_is_quiet top idle m nothing_held)
         (ap (λ (met : Held × Step). step_fault top 1 met.0 met.1) (solid_is_plain top.rules idle 1 m nothing_held))
 
-    miss_over : (c : Option Solid) (p : Place) → IsQuiet p → Reaches top (walk_at p) (written (codes "--miss") c) (walk_at (after Miss c p))
+    miss_over : (c : Option Solid) (p : Place) → IsQuiet p
+        → Reaches top (walk_at p) (written (codes "--miss") c) (walk_at (after Miss c p))
     miss_over None p quiet = stays top (walk_at p)
     miss_over (Some s) p quiet =
         let to = walk_at (after Miss (Some s) p) in
         option_over Miss (Some s) p [] to quiet (stays top to)
 
     module _ (ok0 : accepts false q0 (text_of m) ≡ true) where
-      all_quiet : (a b c : Option Solid) → passes q1 a ≡ true → passes q2 b ≡ true → passes q3 c ≡ true → IsQuiet (last a b c)
+      all_quiet : (a b c : Option Solid) → passes q1 a ≡ true → passes q2 b ≡ true → passes q3 c ≡ true
+          → IsQuiet (last a b c)
       all_quiet None None None ok1 ok2 ok3 = no_kind q0 (text_of m) ok0
       all_quiet (Some a) None None ok1 ok2 ok3 = no_kind q1 (text_of a) ok1
       all_quiet None (Some b) None ok1 ok2 ok3 = no_kind q2 (text_of b) ok2

@@ -44,7 +44,8 @@ names_mode v h = elim (one_of_three (bytes_eq (codes "cluster") v) (bytes_eq (co
   | inr (inr c) ↦ (Guard, sym ((bytes_eq-Decides _ _).0 c))
 ]
 
-accepted_names_mode : (modes : Lent mode_words) (v : Text) → Accepts false (Names modes.list) v → (mode : Mode) × (v ≡ mode_word mode)
+accepted_names_mode : (modes : Lent mode_words) (v : Text) → Accepts false (Names modes.list) v
+    → (mode : Mode) × (v ≡ mode_word mode)
 accepted_names_mode modes v h =
     names_mode v (sym (list_any-map (λ t. bytes_eq t v) (λ s. s.now) modes.list.now ∙ ap (list_any (λ t. bytes_eq t v)) modes.are) ∙ h)
 
@@ -74,7 +75,8 @@ module _ (old : Command) (m : ArgMatches) (modes : Lent mode_words) (is : app_of
       (own_argument old (Names modes.list) (numbers 0 64) (numbers 1024 65000) (numbers 1 1000000) is k an_arg q lt parser)
       (no_globals old (Names modes.list) (numbers 0 64) (numbers 1024 65000) (numbers 1 1000000) is) no_groups x met
 
-  reads : (k least most : ℕ) → k < 4 → (slice_index_or rules_of_it k (rule_of an_arg)).parser ≡ Some (numbers least most)
+  reads : (k least most : ℕ) → k < 4
+      → (slice_index_or rules_of_it k (rule_of an_arg)).parser ≡ Some (numbers least most)
       → ReadsIn (found_of m) (id_at k) least most
   reads k least most lt parser = go (matched_of (found_of m) (id_at k)) refl
     where
@@ -93,7 +95,8 @@ module _ (old : Command) (m : ArgMatches) (modes : Lent mode_words) (is : app_of
       0 an_arg (rw (count old (Names modes.list) (numbers 0 64) (numbers 1024 65000) (numbers 1 1000000) is) (omega arith))
       (ap (λ (r : Rule). r.required) (rule_is old (Names modes.list) (numbers 0 64) (numbers 1024 65000) (numbers 1 1000000) is 0 an_arg))))
     where
-      go : (o : Option MatchedArg) → matched_of (found_of m) (id_at 0) ≡ o → is_some (matched_of (found_of m) (id_at 0)) ≡ true → NamesMode (found_of m)
+      go : (o : Option MatchedArg) → matched_of (found_of m) (id_at 0) ≡ o
+          → is_some (matched_of (found_of m) (id_at 0)) ≡ true → NamesMode (found_of m)
       go None e has =
           let bad : false ≡ true = rw e at has in
           cc

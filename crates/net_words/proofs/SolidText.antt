@@ -82,13 +82,15 @@ signed_is s =
     let size = pos (digits_value 10 (without_leading_sign (text_of s))) in
     ap (λ (b : Bool). cond b (neg_ℤ size) size) s.no_minus ∙ ap (λ (t : Text). pos (digits_value 10 t)) (no_leading_sign s)
 
-solid_in : (least most n : ℕ) (s : Solid) → IsNumeral 10 (text_of s) → digits_value 10 (text_of s) ≡ n → most < 2 ^ 63 → least ≤ n → n ≤ most
+solid_in : (least most n : ℕ) (s : Solid) → IsNumeral 10 (text_of s) → digits_value 10 (text_of s) ≡ n
+    → most < 2 ^ 63 → least ≤ n → n ≤ most
     → IsSignedIn (pos least) (pos most) (text_of s)
 solid_in least most n s numeral value small low high =
     let is : signed_digits_value 10 (text_of s) ≡ pos n = signed_is s ∙ ap (λ (k : ℕ). pos k) value in
     (rw (no_leading_sign s) numeral, rw is (record { sfits = omega arith }), rw is (omega (arith, ints)), rw is (omega (arith, ints)))
 
-pub decimal_passes : (least most n : ℕ) → most < 2 ^ 63 → least ≤ n → n ≤ most → accepts false (numbers least most) (decimal n) ≡ true
+pub decimal_passes : (least most n : ℕ) → most < 2 ^ 63 → least ≤ n → n ≤ most
+    → accepts false (numbers least most) (decimal n) ≡ true
 decimal_passes least most n small low high =
     let n_small : n < 2 ^ 64 = omega arith in
     let written = decimal_is_solid n n_small in

@@ -34,7 +34,8 @@ solid_is_plain c waiting position s h =
     ∙ ap (λ (o : Option Text). short_or_plain c waiting (text_of s) o h) (no_short s)))
 
 -- and no flag at fault
-pub solid_is_quiet : (s : Shape) (waiting : Waiting) (t : Solid) (h : Held) → word_fault s [] false waiting (text_of t) h ≡ []
+pub solid_is_quiet : (s : Shape) (waiting : Waiting) (t : Solid) (h : Held)
+    → word_fault s [] false waiting (text_of t) h ≡ []
 solid_is_quiet s waiting t h =
     ap (λ (o : Option Text). other_fault s o (text_of t) h) (no_subcommand waiting (text_of t))
     ∙ (ap (λ (b : Bool). if b then [] else flag_word_fault s.rules s.args_override_self (long_of (text_of t)) (text_of t) h) (no_dashes t)
@@ -52,7 +53,8 @@ pub stays : (s : Shape) (w : Walk) → Reaches s w [] w
 unfolding walk_fault
 stays s w = record { place = refl; quiet = refl }
 
-pub one_more : (s : Shape) (from next to : Walk) (word : Text) (rest : List Text) → walked s.rules [] from word ≡ next → turn_fault s [] from word ≡ []
+pub one_more : (s : Shape) (from next to : Walk) (word : Text) (rest : List Text)
+    → walked s.rules [] from word ≡ next → turn_fault s [] from word ≡ []
     → Reaches s next rest to → Reaches s from (word ∷ rest) to
 unfolding walk_fault
 one_more s from next to word rest step quiet after = record {

@@ -1,7 +1,7 @@
 //! What the program is asked to do.
 ghost use Rattle.std.specs.Prelude.{◌≡◌, ◌≤◌, IsSomeAnd, codes, map, string_bytes};
 ghost use Rattle.clap.specs.Words.{found_of, one_text, rows_of};
-ghost use Rattle.net_words.specs.Readings.{IsReadable, NamesMode, ReadsIn};
+ghost use Rattle.net_words.specs.Readings.{IsReadable, ReadsIn};
 ghost use Rattle.net_words.specs.Requests.{Answers, Holds, IsInRange, TakesPlain, number_or};
 
 use crate::definition::command;
