@@ -2,7 +2,7 @@
 # Megabytes per second of `decode` and `encode`: small messages, and a NEW_STATE of 4,096 full rows (16 reads and 16
 # writes with names of 32 bytes and values of 64 bytes). Run it at the top of the repository.
 set -e
-cd "$(dirname "$0")/../crates/frame_bench"
+cd "$(dirname "$0")/../crates/benchmarks"
 frame() {
     python3 - "$1" <<'PY'
 import sys
@@ -20,7 +20,7 @@ else:
 PY
 }
 measure() {
-    frame "$1" | rt run -- "$2" 2>&1 | awk '
+    frame "$1" | rt run -- frames "$2" 2>&1 | awk '
         / bytes, / { bytes = $1; rounds = $3 }
         /^decode / { printf "%d bytes: decode %.0f MB/s, encode %.0f MB/s\n", bytes, bytes * rounds / $2, bytes * rounds / $5 }'
 }

@@ -2,7 +2,7 @@
 # Lines per second of a trace that are read and parsed from standard input: half a million events, each with one message
 # of 33 bytes. Run it at the top of the repository.
 set -e
-cd "$(dirname "$0")/../crates/trace_bench"
+cd "$(dirname "$0")/../crates/benchmarks"
 awk 'BEGIN {
     print "trace 1 serial 1"
     for (k = 1; k <= 500000; k++) {
@@ -11,6 +11,6 @@ awk 'BEGIN {
     }
     print "order -"
     print "end 500000 500000"
-}' | rt run 2>&1 | awk '
+}' | rt run -- traces 2>&1 | awk '
     / lines, / { lines = $1; print }
     / us$/ { printf "%.0f lines/s\n", lines / $1 * 1000000 }'

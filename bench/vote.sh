@@ -4,9 +4,9 @@
 # votes that clash are on such as saw all but the last row that wrote their objects, so a scan goes through nearly all
 # rows for either. Run it at the top of the repository.
 set -e
-cd "$(dirname "$0")/../crates/vote_bench"
+cd "$(dirname "$0")/../crates/benchmarks"
 measure() {
-    rt run -- "$1" "$2" "$3" 2>&1 | awk -v objects="$1" -v rows="$2" -v votes="$3" '
+    rt run -- votes "$1" "$2" "$3" 2>&1 | awk -v objects="$1" -v rows="$2" -v votes="$3" '
         function line(rule, kind, scan, by_index) {
             printf "%6d objects, %4d rows, %-8s, %s: scan %.0f votes/s, index %.0f votes/s, %.2f times as many\n",
                 objects, rows, rule, kind, votes * 1e6 / scan, votes * 1e6 / by_index, scan / by_index

@@ -5,12 +5,12 @@
 # repository.
 set -e
 writer=$(realpath "${1:-../shared/peer/plain}" 2>/dev/null) || true
-cd "$(dirname "$0")/../crates/world_bench"
+cd "$(dirname "$0")/../crates/benchmarks"
 if [ ! -x "$writer" ]; then
     echo "skipped: no program that writes a schedule"
     exit 0
 fi
-"$writer" load 1 1000000 | rt run 2>&1 | awk '
+"$writer" load 1 1000000 | rt run -- steps 2>&1 | awk '
     / commits$/ { print }
     / us$/ { each[$1] = 1000 * $3 / $1; printf "%d events: %.0f ns/event\n", $1, each[$1] }
     END { printf "grows by %.2f\n", each[1000000] / each[100000] }'

@@ -1,5 +1,0 @@
-mod lines;
-mod refusals;
-mod schedules;
-mod scripts;
-mod support;

@@ -1,0 +1,9 @@
+pub mod ModeNames
+pub mod GivenValues
+pub mod OwnArguments
+pub mod SolidText
+pub mod SolidWords
+pub mod PlainForm
+pub mod PlainAnswers
+pub mod ReadableMatches
+pub mod Answered

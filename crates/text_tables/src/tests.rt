@@ -1,0 +1,8 @@
+mod payloads;
+mod printed;
+mod refusals;
+mod refused;
+mod schedules;
+mod scripts;
+mod support;
+mod traces;
