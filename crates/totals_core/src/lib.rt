@@ -1,0 +1,10 @@
+//! Runs a schedule whose rule is that additions commute, and tells what its counters are worth.
+#![tactic(auto)]
+
+mod events;
+mod header;
+mod held;
+mod telling;
+mod totalling;
+
+pub use totalling::totals;
