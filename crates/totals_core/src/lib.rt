@@ -3,7 +3,7 @@
 
 mod events;
 mod header;
-mod held;
+mod holdings;
 mod telling;
 mod totalling;
 

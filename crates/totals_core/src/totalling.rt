@@ -3,11 +3,14 @@ ghost use Rattle.std.specs.Prelude.{◌≡◌, ◌≤◌, ℕ, List, Some, OnOk,
 ghost use Rattle.tcs_io.specs.Faults.{Rose};
 ghost use Rattle.tcs_terms.specs.declared.inputs.Event.{Event};
 ghost use Rattle.tcs_terms.specs.declared.setups.Rule.TheVariants as rules;
+ghost use Rattle.text_words.specs.declared.words.Reason.{Reason};
+ghost use Rattle.text_words.specs.declared.words.Reason.TheVariants as reasons;
 ghost use Rattle.tcs_terms.specs.Setups.{Deployment};
-ghost use Rattle.schedule_text.specs.Bytes.{IsText};
+ghost use Rattle.schedule_text.specs.declared.reader.LineItem.{LineItem as Item};
+ghost use Rattle.schedule_text.specs.Bytes.{IsText, FirstBad};
 ghost use Rattle.replay_core.specs.Trace.{run_of, is_live};
-ghost use Rattle.replay_core.specs.Replays.{Stayed, ReplaysFully};
-ghost use Rattle.totals_core.specs.Totalling.{Finishes, Ends};
+ghost use Rattle.replay_core.specs.Replays.{FirstFull, WithinOn, Stayed, ReplaysFully, StopsBy};
+ghost use Rattle.totals_core.specs.Totalling.{Ends, Finishes, NamesOther};
 
 use crate::events::run_events;
 use crate::header::commuting_header;
@@ -38,7 +41,19 @@ pub fn totals<S: Source, K: Sink>(
     // Which answer comes, where no fault was counted.
     ensures complete { (bytes before : List ℕ) → S.left input.old ≡ Some bytes → K.held output.old ≡ Some before
         → Stayed (S.faults input.old) (S.faults input.new) → Stayed (K.faults output.old) (K.faults output.new)
-        → (d : Deployment) (es : List Event) → IsText bytes d es → d.rule ≡ rules.Commute → IsTrue (is_live (run_of d es)) → ReplaysFully result }
+        → (d : Deployment) (es : List Event) → IsText bytes d es → d.rule ≡ rules.Commute → IsTrue (is_live (run_of d es))
+        → ReplaysFully result }
+    ensures other { (bytes before : List ℕ) → S.left input.old ≡ Some bytes → K.held output.old ≡ Some before
+        → Stayed (S.faults input.old) (S.faults input.new) → Stayed (K.faults output.old) (K.faults output.new)
+        → NamesOther bytes → StopsBy (ReplayStop.Bad 2 reasons.Word) result }
+    ensures bad { (bytes before : List ℕ) → S.left input.old ≡ Some bytes → K.held output.old ≡ Some before
+        → Stayed (S.faults input.old) (S.faults input.new) → Stayed (K.faults output.old) (K.faults output.new)
+        → (number : ℕ) (reason : Reason) (is : List Item) → FirstBad bytes number reason is → WithinOn is
+        → (NamesOther bytes → ⊥) → StopsBy (ReplayStop.Bad number reason) result }
+    ensures full { (bytes before : List ℕ) → S.left input.old ≡ Some bytes → K.held output.old ≡ Some before
+        → Stayed (S.faults input.old) (S.faults input.new) → Stayed (K.faults output.old) (K.faults output.new)
+        → (sum : ℕ) (is : List Item) → FirstFull bytes sum is
+        → (NamesOther bytes → ⊥) → StopsBy (ReplayStop.Full sum) result }
 
     // A fault is told only where it was counted.
     ensures read { S.faults input.old ≤ S.faults input.new }
