@@ -101,3 +101,20 @@ pub text_rule : (bytes : List ℕ) (d : Deployment) (es : List Event) (ys : List
     → 2 ≤ length ys → d.rule ≡ q.head.setup.rule
 text_rule bytes d es ys js q c t u some =
     same_rule bytes (schedule_lines d es) ys _ js (at_end d (length es)) q [] c (text_taken bytes d es t) u (many_lines d es) some
+
+-- ---- behind the line `events`
+
+begun_many : (place : Place) (d : Deployment) (es : List Event) → place ≡ places.Events → 3 ≤ length (lines_at place d es)
+unfolding setup_lines
+begun_many places.Version d es at = absurd cc
+begun_many places.Certifier d es at = absurd cc
+begun_many places.Shards d es at = absurd cc
+begun_many places.Parts d es at = absurd cc
+begun_many places.Events d es at = omega arith
+begun_many places.Ended d es at = absurd cc
+
+-- there stand three lines or more
+pub many_begun : (lines : List (List ℕ)) (is : List LineItem) (p : Progress) → reads at_start lines ≡ Ok (is, p) → p.head.place ≡ places.Events → 3 ≤ length lines
+many_begun lines is p read at =
+    let r = reads_take lines at_start [] (is, p) start_stands read in
+    subst (λ (ls : List (List ℕ)). 3 ≤ length ls) r.lines_are (begun_many p.head.place p.head.setup r.more at)
