@@ -1,3 +1,4 @@
+pub mod Answering
 pub mod CommutingEvents
 pub mod CommutingHeader
 pub mod Countable
