@@ -1,5 +1,5 @@
 -- From event to event of a schedule whose rule is that additions commute: nothing is written.
-use Rattle.std.proofs.Common.{◌≡◌, inl, inr, ℕ, ◌+◌, ◌≤◌, List, [], ◌∷◌, ◌++◌, length, Option, Some, refl, sym, ◌∙◌, ap, subst, arith}
+use Rattle.std.proofs.Common.{◌≡◌, inl, inr, ℕ, ◌+◌, ◌≤◌, List, [], ◌∷◌, ◌++◌, length, Option, Some, Ok, refl, sym, ◌∙◌, ap, subst, arith}
 use Rattle.tcs_terms.specs.declared.inputs.Event.{Event}
 use Rattle.tcs_terms.specs.declared.setups.Rule.TheVariants as rules
 use Rattle.tcs_terms.specs.Setups.{Deployment}
@@ -8,16 +8,22 @@ use Rattle.schedule_text.specs.declared.places.Place.TheVariants as places
 use Rattle.schedule_text.specs.declared.reader.LineItem.{LineItem}
 use Rattle.schedule_text.specs.declared.reader.LineItem.TheVariants as items
 use Rattle.schedule_text.specs.Bytes.{IsText, events_on}
-use Rattle.protocol.specs.Limit.{Progress as Run}
+use Rattle.protocol.specs.Limit.{Progress as Run, Answer, limited_step}
+use Rattle.protocol.specs.Limit.Answer.{Happens, SoupFull}
+use Rattle.protocol_laws.specs.Promises.{world_of}
+use Rattle.world.specs.declared.happenings.Happening.{Happening}
+use Rattle.world.specs.WorldState.{Tells as WorldTells, events_of}
 use Rattle.replay_core.specs.declared.reading.Reading.{Reading}
 use Rattle.replay_core.specs.declared.stops.ReplayStop.{ReplayStop}
 use Rattle.replay_core.specs.declared.stops.ReplayStop.TheVariants as stops
 use Rattle.replay_core.specs.Replays.{Kept, shown}
 use Rattle.replay_core.specs.Standing.{HasRead, IsAt, RunsAt, StandsBegun, StopsStepping, Takes, Refuses}
+use Rattle.replay_core.specs.Steps.{Tells}
 use Rattle.replay_core.specs.Trace.{run_of}
 use Rattle.replay_core.proofs.Finishing.{at_end}
 use Rattle.replay_core.proofs.Going.{ended, new_standing, stops_stepping, whole_line}
 use Rattle.replay_core.proofs.Promised.{kept, are_events}
+use Rattle.replay_core.proofs.Steps.{stepped, written}
 use Rattle.replay_core.proofs.Taking.{in_hand, reads_on}
 use Rattle.replay_core.proofs.Working.{kept_of, stands_stepped}
 use Rattle.totals_core.specs.Progressing.{GoesOn, HasRun, StopsNow}
@@ -25,7 +31,21 @@ use Rattle.totals_core.specs.Totalling.{ReadOn}
 use Rattle.totals_core.proofs.RuleLines.{rule_stays}
 use Rattle.totals_core.proofs.Stopping.{no_other_read, read_on_in_hand, some_is, stops_reading}
 
+-- a world tells the result of a step as a replay does
+tells_same : (h : Happening) (a : Answer) → WorldTells (Ok h) a → Tells (Ok h.result) a
+tells_same h (Happens result notes sent) x = x.0
+tells_same h (SoupFull bytes) x = x
+
 module _ (tests : Tests) where
+  -- the run stands behind an event that was stepped
+  pub stepped_on : (setup setup' : Deployment) (p p' : Run) (d : Deployment) (es : List Event) (e : Event) (h : Happening) → RunsAt tests setup p d es
+      → WorldTells (Ok h) (limited_step tests setup.version p e).answer → p' ≡ (limited_step tests setup.version p e).after → setup' ≡ setup → RunsAt tests setup' p' d (es ++ e ∷ [])
+  stepped_on setup setup' p p' d es e h r tells after same =
+      let noted = length (world_of p).history in
+      let sent = length (world_of p).messages in
+      (stepped tests setup setup' p p' d es e h.result (events_of p') noted sent (written (events_of p') noted sent h.result (world_of p')) r
+      (tells_same h (limited_step tests setup.version p e).answer tells) after same refl refl refl refl).1
+
   pub goes_at_first : (r : Reading) (setup : Deployment) (p : Run) (left : Option (List ℕ)) (is : List LineItem) → StandsBegun tests places.Events r setup p is → 2 ≤ r.number
       → r.reader.head.setup.rule ≡ rules.Commute → GoesOn tests r left is r setup p left
   goes_at_first r setup p left is s many commute = record { items = is; stands = s; many = many; commute = commute; at = λ bytes h. h }

@@ -1,6 +1,6 @@
 -- The greatest that holdings have of a counter is the greatest that a node of its shard has.
-use Rattle.std.proofs.Common.{◌≡◌, ◌⊎◌, inl, inr, ℕ, ◌+◌, ◌<◌, ◌≤◌, Bool, true, false, cond, List, [], ◌∷◌, ◌++◌, length, map, Option, Some, None, refl, sym, ◌∙◌, ap, subst, arith}
-use Rattle.std.specs.Prelude.{fold, max, nat_le, ◌==◌, find}
+use Rattle.std.proofs.Common.{◌≡◌, ◌⊎◌, inl, inr, ℕ, ◌+◌, ◌<◌, ◌≤◌, Bool, true, false, cond, List, [], ◌∷◌, ◌++◌, length, map, Option, Some, None, refl, leb-true, leb-false, sym, ◌∙◌, ap, subst, arith}
+use Rattle.std.specs.Prelude.{fold, max, nat_le, ◌==◌}
 use Rattle.std.specs.List.{range_with_len}
 use Rattle.std.specs.Option.{option_map, unwrap_or}
 use Rattle.std.proofs.lemmas.Bool.{cases_Bool, cond-true, cond-false, eqb-true, eq-eqb}
@@ -32,8 +32,8 @@ module _ {X : Type 0} (f : X → ℕ) where
 
   max_one : (a b : ℕ) → (max a b ≡ a) ⊎ (max a b ≡ b)
   max_one a b = elim (cases_Bool (nat_le a b)) [
-    | inl le ↦ inr (rw le refl)
-    | inr gt ↦ inl (rw gt refl)
+    | inl le ↦ (let small : a ≤ b = leb-true a b le in inr (omega arith))
+    | inr gt ↦ (let great : b < a = leb-false a b gt in inl (omega arith))
   ]
 
   most_first : (m : ℕ) (xs : List X) → m ≤ most m xs
