@@ -61,12 +61,12 @@ module _ {X : Type 0} (bytes before : List ℕ) (left held : Option (List ℕ)) 
   complete d es (Err (stops.Bad number reason)) x read wrote calm quiet t commute live = go x.stopped.1 where
     go : ((NamesOther bytes → ⊥) × AsReplay bytes x.rest (stops.Bad number reason)) ⊎ ((number ≡ 2) × (reason ≡ reasons.Word) × StopsAtRule bytes x.rest)
         → ReplaysFully {X = X} (Err (stops.Bad number reason))
-    go (inl y) = completes bytes [] left (Some y.1) a b m n d es (Err (stops.Bad number reason)) (as_replay bytes x.rest y.1 left (stops.Bad number reason) x.told y.2) read wrote calm quiet t live
+    go (inl y) = completes bytes [] left (Some y.1.0) a b m n d es (Err (stops.Bad number reason)) (as_replay bytes x.rest y.1.0 left (stops.Bad number reason) x.told y.1.1) read wrote calm quiet t live
     go (inr y) = absurd (no_other_text bytes d es t commute y.2.names)
   complete d es (Err stops.ReadFault) x read wrote calm quiet t commute live = absurd (calm (read refl))
   complete d es (Err stops.WriteFault) x read wrote calm quiet t commute live = absurd (quiet (wrote refl))
   complete d es (Err (stops.Full sum)) x read wrote calm quiet t commute live =
-      completes bytes [] left (Some x.stopped.2) a b m n d es (Err (stops.Full sum)) (as_replay bytes x.rest x.stopped.2 left (stops.Full sum) x.told x.stopped.3) read wrote calm quiet t live
+      completes bytes [] left (Some x.stopped.2.0) a b m n d es (Err (stops.Full sum)) (as_replay bytes x.rest x.stopped.2.0 left (stops.Full sum) x.told x.stopped.2.1) read wrote calm quiet t live
   complete d es (Err stops.OutOfMemory) x read wrote calm quiet t commute live = refl
 
   pub other : (result : Result X ReplayStop) → Succeeds result → Fails result → Read result → Wrote result → Stayed a b → Stayed m n → NamesOther bytes → StopsBy (stops.Bad 2 reasons.Word) result
@@ -87,12 +87,12 @@ module _ {X : Type 0} (bytes before : List ℕ) (left held : Option (List ℕ)) 
   bad number reason is (Err (stops.Bad k r)) f x read wrote calm quiet first within none = go x.stopped.1 where
     go : ((NamesOther bytes → ⊥) × AsReplay bytes x.rest (stops.Bad k r)) ⊎ ((k ≡ 2) × (r ≡ reasons.Word) × StopsAtRule bytes x.rest) → StopsBy {X = X} (stops.Bad number reason) (Err (stops.Bad k r))
     go (inl y) =
-        stops_at_bad bytes [] left (Some y.1) a b m n number reason is (Err (stops.Bad k r)) tt (as_replay bytes x.rest y.1 left (stops.Bad k r) x.told y.2) read wrote calm quiet first within
+        stops_at_bad bytes [] left (Some y.1.0) a b m n number reason is (Err (stops.Bad k r)) tt (as_replay bytes x.rest y.1.0 left (stops.Bad k r) x.told y.1.1) read wrote calm quiet first within
     go (inr y) = absurd (none y.2.names)
   bad number reason is (Err stops.ReadFault) f x read wrote calm quiet first within none = absurd (calm (read refl))
   bad number reason is (Err stops.WriteFault) f x read wrote calm quiet first within none = absurd (quiet (wrote refl))
   bad number reason is (Err (stops.Full sum)) f x read wrote calm quiet first within none =
-      stops_at_bad bytes [] left (Some x.stopped.2) a b m n number reason is (Err (stops.Full sum)) tt (as_replay bytes x.rest x.stopped.2 left (stops.Full sum) x.told x.stopped.3) read wrote calm quiet first within
+      stops_at_bad bytes [] left (Some x.stopped.2.0) a b m n number reason is (Err (stops.Full sum)) tt (as_replay bytes x.rest x.stopped.2.0 left (stops.Full sum) x.told x.stopped.2.1) read wrote calm quiet first within
   bad number reason is (Err stops.OutOfMemory) f x read wrote calm quiet first within none = inr refl
 
   pub full : (sum : ℕ) (is : List LineItem) (result : Result X ReplayStop) → Succeeds result → Fails result → Read result → Wrote result → Stayed a b → Stayed m n → FirstFull bytes sum is
@@ -101,10 +101,10 @@ module _ {X : Type 0} (bytes before : List ℕ) (left held : Option (List ℕ)) 
       stops_at_full bytes [] left (Some (trace f.totals.setup f.totals.events)) a b m n sum is (Ok done) (as_finished bytes f.rest f.written left f.told f.totals) tt read wrote calm quiet first
   full sum is (Err (stops.Bad k r)) f x read wrote calm quiet first none = go x.stopped.1 where
     go : ((NamesOther bytes → ⊥) × AsReplay bytes x.rest (stops.Bad k r)) ⊎ ((k ≡ 2) × (r ≡ reasons.Word) × StopsAtRule bytes x.rest) → StopsBy {X = X} (stops.Full sum) (Err (stops.Bad k r))
-    go (inl y) = stops_at_full bytes [] left (Some y.1) a b m n sum is (Err (stops.Bad k r)) tt (as_replay bytes x.rest y.1 left (stops.Bad k r) x.told y.2) read wrote calm quiet first
+    go (inl y) = stops_at_full bytes [] left (Some y.1.0) a b m n sum is (Err (stops.Bad k r)) tt (as_replay bytes x.rest y.1.0 left (stops.Bad k r) x.told y.1.1) read wrote calm quiet first
     go (inr y) = absurd (none y.2.names)
   full sum is (Err stops.ReadFault) f x read wrote calm quiet first none = absurd (calm (read refl))
   full sum is (Err stops.WriteFault) f x read wrote calm quiet first none = absurd (quiet (wrote refl))
-  full sum is (Err (stops.Full other)) f x read wrote calm quiet first none =
-      stops_at_full bytes [] left (Some x.stopped.2) a b m n sum is (Err (stops.Full other)) tt (as_replay bytes x.rest x.stopped.2 left (stops.Full other) x.told x.stopped.3) read wrote calm quiet first
+  full sum is (Err (stops.Full total)) f x read wrote calm quiet first none =
+      stops_at_full bytes [] left (Some x.stopped.2.0) a b m n sum is (Err (stops.Full total)) tt (as_replay bytes x.rest x.stopped.2.0 left (stops.Full total) x.told x.stopped.2.1) read wrote calm quiet first
   full sum is (Err stops.OutOfMemory) f x read wrote calm quiet first none = inr refl

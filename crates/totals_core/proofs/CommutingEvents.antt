@@ -94,11 +94,11 @@ module _ (tests : Tests) where
     go stops.WriteFault y = absurd y
     go (stops.Full sum) y =
         let ends = stops_stepping bytes [] tests old new setup p g.items e left (Some (shown g.items)) left' (stops.Full sum) g.stands at t y in
-        (ends.rest, ends.told, refl, no_other_read bytes old left g.items now g.many g.commute, ends.written, ends.stopped)
+        (ends.rest, ends.told, (refl, no_other_read bytes old left g.items now g.many g.commute, (ends.written, ends.stopped)))
     go stops.OutOfMemory y =
         let ends = stops_stepping bytes [] tests old new setup p g.items e left (Some (shown g.items)) left' stops.OutOfMemory g.stands at t y in
         let hand = in_hand bytes old new g.items (items.Event e) left left' now (whole_line tests old new setup p g.items (items.Event e) left left' g.stands t) in
-        (ends.rest, ends.told, inl (refl, subst (ReadOn bytes) (some_is hand.rest ends.rest (sym hand.told ∙ ends.told)) (read_on_in_hand bytes old left left' g.items (items.Event e) now g.many g.commute hand), ends.written, ends.stopped))
+        (ends.rest, ends.told, inl (refl, subst (ReadOn bytes) (some_is hand.rest ends.rest (sym hand.told ∙ ends.told)) (read_on_in_hand bytes old left left' g.items (items.Event e) now g.many g.commute hand), (ends.written, ends.stopped)))
 
   -- ---- the end
 

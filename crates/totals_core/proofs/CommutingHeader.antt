@@ -17,6 +17,7 @@ use Rattle.replay_core.specs.Standing.{InHeader, Refuses, Takes}
 use Rattle.replay_core.proofs.Heading.{first_header, whole_of, header_on, header_begun}
 use Rattle.replay_core.proofs.Taking.{stands_on}
 use Rattle.totals_core.specs.Progressing.{InCommuting, BegunCommuting, StopsUnwritten}
+use Rattle.totals_core.specs.Totalling.{NamesOther}
 use Rattle.totals_core.proofs.RuleLines.{rule_stays, many_begun}
 use Rattle.totals_core.proofs.Stopping.{stops_reading}
 
@@ -69,26 +70,14 @@ pub other_stops : (old new : Reading) (first left left' : Option (List ℕ)) →
     → StopsUnwritten first left' (stops.Bad 2 reasons.Word)
 other_stops old new first left left' h t two other = λ bytes told.
     let n = header_on old new first left left' h.header t in
-    let r = n.read bytes told in (
-      r.rest,
-      r.told,
-      refl,
-      inr (
-        refl,
-        refl,
-        record {
-          names = record {
-            lines = r.lines;
-            items = n.items;
-            progress = new.reader;
-            behind = new.lines ++ r.rest;
-            taken = r.taken;
-            two = omega (arith, r.counted, two);
-            other = other;
-          };
-          ahead = new.lines;
-          read = refl;
-          few = r.few;
-        },
-      ),
-    )
+    let r = n.read bytes told in
+    let names : NamesOther bytes = record {
+      lines = r.lines;
+      items = n.items;
+      progress = new.reader;
+      behind = new.lines ++ r.rest;
+      taken = r.taken;
+      two = omega (arith, r.counted, two);
+      other = other;
+    } in
+    (r.rest, r.told, (refl, inr (refl, refl, record { names = names; ahead = new.lines; read = refl; few = r.few })))

@@ -69,12 +69,12 @@ pub stops_reading : (bytes : List ℕ) (old : Reading) (left left' : Option (Lis
     → StopsNow bytes left' stop
 stops_reading bytes old left left' is (stops.Bad number reason) h kept commute x =
     let at = stops_at bytes old left left' is (stops.Bad number reason) h kept x in
-    (at.rest, at.told, refl, inl (no_other_at_bad bytes old left is at.stopped.items number reason h commute at.stopped.bad x.counted, shown is, at.stopped))
+    (at.rest, at.told, (refl, inl (no_other_at_bad bytes old left is at.stopped.items number reason h commute at.stopped.bad x.counted, (shown is, at.stopped))))
 stops_reading bytes old left left' is stops.ReadFault h kept commute x =
     let at = stops_at bytes old left left' is stops.ReadFault h kept x in
-    (at.rest, at.told, refl, read_on bytes old left left' is x.0 h commute x.1 at.rest at.told, shown is, at.stopped)
+    (at.rest, at.told, (refl, read_on bytes old left left' is x.0 h commute x.1 at.rest at.told, (shown is, at.stopped)))
 stops_reading bytes old left left' is stops.WriteFault h kept commute x = absurd x
 stops_reading bytes old left left' is (stops.Full sum) h kept commute x = absurd x
 stops_reading bytes old left left' is stops.OutOfMemory h kept commute x =
     let at = stops_at bytes old left left' is stops.OutOfMemory h kept x in
-    (at.rest, at.told, inl (refl, read_on bytes old left left' is x.0 h commute x.1 at.rest at.told, shown is, at.stopped))
+    (at.rest, at.told, inl (refl, read_on bytes old left left' is x.0 h commute x.1 at.rest at.told, (shown is, at.stopped)))

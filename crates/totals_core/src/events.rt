@@ -62,6 +62,8 @@ fn step<G: VoteGuard>(world: &mut World<G>, event: Event) -> Result<(), ReplaySt
     ensures lives { OnOk result (world.new.spent ≡ false) }
     ensures stopped { (d : Deployment) (es : List Event) → RunsAt G.Rule.tests world.old.setup world.old.progress d es
         → IfErr result (StopsStepping d es event) }
+    ensures no_read { IsErrOf result ReplayStop.ReadFault → ⊥ }
+    ensures no_write { IsErrOf result ReplayStop.WriteFault → ⊥ }
 {
     match world.step(event) {
         Ok(_) => Ok(()),

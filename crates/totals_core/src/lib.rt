@@ -5,6 +5,8 @@ mod events;
 mod header;
 mod holdings;
 mod telling;
+#[cfg(test)]
+mod tests;
 mod totalling;
 
 pub use totalling::totals;

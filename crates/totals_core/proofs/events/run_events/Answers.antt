@@ -67,3 +67,21 @@ pub unreachable-requires-in-Begun : goal.unreachable-requires-in-Begun
 unreachable-requires-in-Begun g c =
     let w = c.lines.invariant.works c.requires.begun.0 c.requires.begun.1 in
     no_setup _ c.lines.reading c.take.new.self _ _ w.items _ _ _ w.stands (rw c.in-Begun.is at c.in_ok-event.ensures.item)
+
+-- behind the line `end`
+pub take-requires-in-End : goal.take-requires-in-End
+take-requires-in-End g c =
+    let w = c.lines.invariant.works c.requires.begun.0 c.requires.begun.1 in
+    let e = ends _ c.args.reading.now c.lines.reading c.take.new.self _ _ _ _ _ _ w (rw c.in-End.is at c.in_ok-event.ensures.item) in
+    omega (arith, few_taken c.take.new.self e.items e.stands.standing)
+
+pub returns-in_err-take-in-End-clause-stopped : goal.returns-in_err-take-in-End-clause-stopped
+returns-in_err-take-in-End-clause-stopped g c = λ is s bytes at.
+    let e = ends _ c.args.reading.now c.lines.reading c.take.new.self _ _ _ _ _ _ (c.lines.invariant.works is s) (rw c.in-End.is at c.in_ok-event.ensures.item) in
+    let p = err_from_is_err_and c.from_residual-in_err-take-in-End.result c.from_residual-in_err-take-in-End.ensures.1 in
+    rw (p.1, p.2) (stops_at_end _ bytes c.take.new.self c.args.reading.now _ _ _ is _ _ _ e at c.in_err-take-in-End.ensures.stop)
+
+pub returns-in-End-clause-whole : goal.returns-in-End-clause-whole
+returns-in-End-clause-whole g c = λ is s bytes at.
+    let e = ends _ c.args.reading.now c.lines.reading c.take.new.self _ _ _ _ _ _ (c.lines.invariant.works is s) (rw c.in-End.is at c.in_ok-event.ensures.item) in
+    has_run _ bytes c.take.new.self c.take-in-End.new.self c.args.reading.now _ _ _ is _ _ _ e at c.in_ok-take-in-End.ensures.item
