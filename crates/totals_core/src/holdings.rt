@@ -6,7 +6,8 @@ ghost use Rattle.totals_core.specs.Holdings.{AreHoldings, IsCountable, held_by, 
 use counters::{Sums, sums_of_rows};
 use std::alloc::Global;
 use tcs_laws::VoteGuard;
-use tcs_terms::{MAX_NODES, Name, OutOfMemory, ShardId, shard_of};
+use tcs_terms::limits::MAX_NODES;
+use tcs_terms::{Name, OutOfMemory, ShardId, shard_of};
 use world::World;
 
 /// The sums of the committed rows of a node, and its shard.

@@ -1,0 +1,50 @@
+-- What holds of the counters of each run.
+use Rattle.std.proofs.Common.{◌≡◌, ◌⊎◌, inl, inr, ℕ, ◌≤◌, true, List, [], ◌∷◌, ◌++◌, sym, ap, subst, arith, ◌∙◌, refl}
+use Rattle.tcs_terms.specs.declared.inputs.Event.{Event}
+use Rattle.tcs_terms.specs.declared.inputs.Note.{Note}
+use Rattle.tcs_terms.specs.declared.setups.Rule.{Rule}
+use Rattle.tcs_terms.specs.declared.setups.Rule.TheVariants as rules
+use Rattle.tcs_terms.specs.Payloads.{Accesses}
+use Rattle.tcs_terms.specs.Setups.{Deployment}
+use Rattle.cert_commute.specs.Commute.{commute}
+use Rattle.protocol.specs.CorrectHistory.{is_legal}
+use Rattle.protocol.specs.History.{order_of, payloads_of}
+use Rattle.protocol.specs.Invariant.Time.{StandsIn, time_after}
+use Rattle.protocol.specs.Limit.{Progress as Run}
+use Rattle.protocol.specs.Limit.Progress.{Live, Ended}
+use Rattle.protocol.specs.Records.{NodeRecord}
+use Rattle.protocol.specs.World.{World}
+use Rattle.protocol_laws.specs.Exchange.{may_commit, OnlyAdds}
+use Rattle.protocol_laws.specs.Promises.{KeepsItsPromises, world_of}
+use Rattle.protocol_laws.specs.Told.{ToldRightly}
+use Rattle.protocol_laws.proofs.Exchanges.{exchange-additions, legal-may_commit}
+use Rattle.counters.specs.Amounts.{node_total}
+use Rattle.counters.specs.Histories.{total}
+use Rattle.counter_laws.proofs.NodeTotals.{node_within}
+use Rattle.replay_core.specs.Replays.{Kept}
+use Rattle.replay_core.specs.Trace.{run_of, is_live, tests_of}
+use Rattle.totals_core.specs.Telling.{Holds, IsHeld, IsTold}
+use Rattle.totals_core.specs.Totalling.{ExchangesAdditions}
+
+-- no node has more of a counter than the sum over the order
+node_less : (d : Deployment) (es : List Event) (p : Run) → KeepsItsPromises (tests_of d.rule) d es p → is_live p ≡ true
+    → (node : NodeRecord) → StandsIn node (world_of p).nodes → (name : List ℕ) → node_total node.rows name ≤ total (world_of p).history name
+node_less d es (Ended w count bytes) k live = absurd cc
+node_less d es (Live w count bytes) k live =
+    let t = time_after (tests_of d.rule) d es in
+    let holds = k.invariant.holds in
+    subst (λ (x : World). (node : NodeRecord) → StandsIn node x.nodes → (name : List ℕ) → node_total node.rows name ≤ total x.history name) k.invariant.now
+    (node_within d t holds.transactions holds.promises (subst ToldRightly (sym k.invariant.now) k.told))
+
+pub within : (d : Deployment) (es : List Event) (text : List ℕ) → Kept d es → (told : IsTold d.shards (world_of (run_of d es)) text) → (name : List ℕ) → told.held name ≤ total (world_of (run_of d es)).history name
+within d es text k told name = go (told.greatest name).reached where
+  go : (told.held name ≡ 0) ⊎ Holds d.shards (world_of (run_of d es)).nodes name (told.held name) → told.held name ≤ total (world_of (run_of d es)).history name
+  go (inl none) = omega (arith, none)
+  go (inr h) = subst (λ k. k ≤ total (world_of (run_of d es)).history name) h.has (node_less d es (run_of d es) k.promises k.within h.node h.there name)
+
+-- neighbours of the order that only add may be exchanged
+pub exchanges : (d : Deployment) (es : List Event) → Kept d es → d.rule ≡ rules.Commute → ExchangesAdditions (world_of (run_of d es)).history
+exchanges d es k rule = λ front a b back is only.
+    let h = (world_of (run_of d es)).history in
+    let legal : is_legal commute h ≡ true = subst (λ (r : Rule). is_legal (tests_of r) h ≡ true) rule k.promises.correct.legality in
+    exchange-additions front a b back only (subst (λ (ps : List Accesses). may_commit commute ps ≡ true) is (legal-may_commit commute h legal))
