@@ -98,7 +98,7 @@ module _ (tests : Tests) where
     go stops.OutOfMemory y =
         let ends = stops_stepping bytes [] tests old new setup p g.items e left (Some (shown g.items)) left' stops.OutOfMemory g.stands at t y in
         let hand = in_hand bytes old new g.items (items.Event e) left left' now (whole_line tests old new setup p g.items (items.Event e) left left' g.stands t) in
-        (ends.rest, ends.told, inl (refl, subst (ReadOn bytes) (some_is hand.rest ends.rest (sym hand.told ∙ ends.told)) (read_on_in_hand bytes old left left' g.items (items.Event e) now g.many g.commute hand), (ends.written, ends.stopped)))
+        (ends.rest, ends.told, inl (refl, subst (ReadOn bytes) (some_is hand.rest ends.rest (sym hand.told ∙ ends.told)) (read_on_in_hand bytes old left left' g.items g.items (items.Event e) now g.many g.commute hand), (ends.written, ends.stopped)))
 
   -- ---- the end
 

@@ -10,7 +10,15 @@ use Rattle.tcs_terms.specs.declared.inputs.Note.TheVariants.{Begin, Take, ReadVa
 use Rattle.tcs_terms.specs.declared.votes.Decision.{Decision}
 use Rattle.tcs_terms.specs.declared.votes.Decision.TheVariants.{Commit, Abort}
 use Rattle.tcs_terms.specs.Setups.{Deployment}
-use Rattle.schedule_text.specs.Whole.{IsSchedule}
+use Rattle.tcs_terms.specs.Runs.{AreEventsOf}
+use Rattle.tcs_laws.specs.Certification.{Tests}
+use Rattle.schedule_text.specs.declared.limits.TheConstants.{EVENT_LIMIT}
+use Rattle.schedule_text.specs.declared.places.Place.{Place}
+use Rattle.schedule_text.specs.declared.places.Place.TheVariants as places
+use Rattle.schedule_text.specs.declared.reader.LineItem.{LineItem}
+use Rattle.schedule_text.specs.Bytes.{events_on}
+use Rattle.schedule_text.proofs.BytesRead.{known}
+use Rattle.schedule_text.proofs.ScheduleReadings.{EventsStand}
 use Rattle.protocol.specs.CorrectHistory.{agrees, agrees_after, agrees_with}
 use Rattle.protocol.specs.History.{has_begun}
 use Rattle.protocol.specs.Invariant.Time.{StandsIn, time_after}
@@ -24,30 +32,42 @@ use Rattle.protocol_laws.proofs.RunsOn.{run-counted}
 use Rattle.protocol_laws.proofs.WithPast.{with_past-each}
 use Rattle.wire_frame.proofs.Counts.{few_rows}
 use Rattle.counters.specs.Histories.{decided_after, may_follow}
-use Rattle.replay_core.specs.Replays.{Kept}
+use Rattle.replay_core.specs.declared.reading.Reading.{Reading}
+use Rattle.replay_core.specs.Standing.{StandsBegun}
 use Rattle.replay_core.specs.Trace.{tests_of, run_of, is_live}
+use Rattle.replay_core.proofs.Promised.{are_events, kept}
 use Rattle.totals_core.specs.Holdings.{IsCountable}
 use Rattle.totals_core.specs.Progressing.{AreFew}
 
-by_run : (d : Deployment) (es : List Event) (p : Run) → IsSchedule d es → KeepsItsPromises (tests_of d.rule) d es p → CountsHold es p → is_live p ≡ true → IsCountable (world_of p)
-by_run d es (Ended w count bytes) s k counts live = absurd cc
-by_run d es (Live w count bytes) s k counts live =
+by_run : (d : Deployment) (es : List Event) (p : Run) → AreEventsOf d es → length es ≤ EVENT_LIMIT → KeepsItsPromises (tests_of d.rule) d es p → CountsHold es p → is_live p ≡ true → IsCountable (world_of p)
+by_run d es (Ended w count bytes) a few k counts live = absurd cc
+by_run d es (Live w count bytes) a few k counts live =
     let t = time_after (tests_of d.rule) d es in
     let holds = k.invariant.holds in
-    let few_events = s.few in
     let notes = counts.notes in
     let counted = counts.counted in
     record {
       count = length d.nodes;
       names = subst (λ (x : World). map (λ (n : NodeRecord). n.name) x.nodes ≡ range_with_len 1 (length d.nodes)) k.invariant.now holds.configurations.names;
-      few = s.setup.few_nodes;
+      few = a.deployment.few_nodes;
       rows = λ node there. few_rows node.rows (holds.promises.rows node (subst (λ (x : World). StandsIn node x.nodes) (sym k.invariant.now) there));
       agreement = k.correct.agreement;
-      notes = omega (arith, few_events, notes, counted);
+      notes = omega (arith, few, notes, counted);
     }
 
-pub countable : (d : Deployment) (es : List Event) → IsSchedule d es → Kept d es → IsCountable (world_of (run_of d es))
-countable d es s k = by_run d es (run_of d es) s k.promises (run-counted (tests_of d.rule) d es) k.within
+-- the world of a run whose input has ended
+pub countable : (tests : Tests) (r : Reading) (setup : Deployment) (p : Run) (is : List LineItem) → StandsBegun tests places.Ended r setup p is → IsCountable (world_of p)
+countable tests r setup p is s =
+    let d = r.reader.head.setup in
+    let es = events_on is in
+    let a = are_events r is s.standing s.begun in
+    let k = known s.standing.lines is r.reader s.standing.read in
+    let stands = subst (λ (place : Place). EventsStand place d r.reader.count es) s.place k.stands.events in
+    subst (λ (q : Run). IsCountable (world_of q)) (sym s.runs.so_far)
+    (by_run d es (run_of d es) a stands.2 (kept d es a s.runs.within).promises (run-counted (tests_of d.rule) d es) s.runs.within)
+
+pub some_shards : (tests : Tests) (r : Reading) (setup : Deployment) (p : Run) (is : List LineItem) → StandsBegun tests places.Ended r setup p is → 1 ≤ setup.shards
+some_shards tests r setup p is s = subst (λ (f : Deployment). 1 ≤ f.shards) (sym s.runs.of) (are_events r is s.standing s.begun).deployment.some_shards
 
 -- ---- the notes of a history
 

@@ -97,7 +97,7 @@ below_first nodes count names = record { each = λ h there. absurd there; all = 
   first : (node : NodeRecord) → StandsIn node nodes → 1 ≤ node.name
   first node there = numbered-above (λ n. n.name) nodes 1 count node names there
 
-found_there : (nodes : List NodeRecord) (name : ℕ) (node : NodeRecord) → node_of nodes name ≡ Some node → StandsIn node nodes × (node.name ≡ name)
+pub found_there : (nodes : List NodeRecord) (name : ℕ) (node : NodeRecord) → node_of nodes name ≡ Some node → StandsIn node nodes × (node.name ≡ name)
 found_there [] name node found = absurd cc
 found_there (n ∷ ns) name node found = elim (cases_Bool (n.name == name)) [
   | inl same ↦ (let is : Some n ≡ Some node = sym (cond-true (n.name == name) (Some n) (node_of ns name) same) ∙ found in
@@ -113,6 +113,7 @@ below_found nodes count name holdings h node names found is below = record {
   all = λ n there low. all n there (eq-or-lt_of_le (omega (arith, low)));
 }
   where
+    here : StandsIn node nodes × (node.name ≡ name)
     here = found_there nodes name node found
 
     StandsIn-split : (xs : List Holding) (g : Holding) → StandsIn g (xs ++ h ∷ []) → StandsIn g xs ⊎ (g ≡ h)

@@ -53,14 +53,14 @@ read_on bytes old left left' is held h commute b rest told =
     })
 
 -- while a line is worked on
-pub read_on_in_hand : (bytes : List ℕ) (old : Reading) (left left' : Option (List ℕ)) (is : List LineItem) (item : LineItem) → HasRead bytes old left is → 2 ≤ old.number → old.reader.head.setup.rule ≡ rules.Commute
+pub read_on_in_hand : (bytes : List ℕ) (r : Reading) (left left' : Option (List ℕ)) (js is : List LineItem) (item : LineItem) → HasRead bytes r left js → 2 ≤ r.number → r.reader.head.setup.rule ≡ rules.Commute
     → (x : InHand bytes left' is item) → ReadOn bytes x.rest
-read_on_in_hand bytes old left left' is item h many commute x = record {
+read_on_in_hand bytes r left left' js is item h many commute x = record {
   items = is;
   progress = x.progress;
   behind = x.behind;
   worked = x.worked;
-  commute = λ more. same_rule bytes x.worked.lines h.lines is is x.progress old.reader x.behind (old.lines ++ h.rest) x.worked.taken h.taken more (omega (arith, many, h.counted)) ∙ commute;
+  commute = λ more. same_rule bytes x.worked.lines h.lines is js x.progress r.reader x.behind (r.lines ++ h.rest) x.worked.taken h.taken more (omega (arith, many, h.counted)) ∙ commute;
 }
 
 -- ---- a line that is refused, or was not read whole

@@ -52,7 +52,7 @@ stops_begun bytes r first left d b told =
     let e = ends_begun bytes [] r first left (Some []) d b.begun told refl in
     let read = b.begun.read bytes told in
     let commute : r.reader.head.setup.rule ≡ rules.Commute = ap (λ (f : Deployment). f.rule) (sym b.begun.setup) ∙ b.commute in
-    let on = read_on_in_hand bytes r left (b.begun.items ++ items.Begun d ∷ []) b.begun.items (items.Begun d) read.0 b.many commute read.1 in
+    let on = read_on_in_hand bytes r left left (b.begun.items ++ items.Begun d ∷ []) b.begun.items (items.Begun d) read.0 b.many commute read.1 in
     (e.rest, e.told, inl (refl, subst (ReadOn bytes) (some_is read.1.rest e.rest (sym read.1.told ∙ e.told)) on, (e.written, e.stopped)))
 
 -- ---- all was read

@@ -1,14 +1,20 @@
 -- What `totals` answers, and what it has read and written by then.
-use Rattle.std.specs.Prelude.{◌≡◌, ◌⊎◌, ℕ, ◌+◌, ◌≤◌, List, [], ◌++◌, length, Option, Some}
+use Rattle.std.specs.Prelude.{◌≡◌, ◌⊎◌, ℕ, ◌+◌, ◌≤◌, true, List, [], ◌∷◌, ◌++◌, length, Option, Some}
 use Rattle.tcs_terms.specs.declared.inputs.Event.{Event}
+use Rattle.tcs_terms.specs.declared.inputs.Note.{Note}
 use Rattle.tcs_terms.specs.declared.setups.Rule.TheVariants as rules
 use Rattle.text_words.specs.declared.words.Reason.TheVariants as reasons
+use Rattle.tcs_terms.specs.Payloads.{Accesses}
 use Rattle.tcs_terms.specs.Setups.{Deployment}
+use Rattle.cert_commute.specs.Commute.{commute}
 use Rattle.schedule_text.specs.declared.limits.TheConstants.{LINE_LIMIT}
 use Rattle.schedule_text.specs.declared.reader.LineItem.{LineItem}
 use Rattle.schedule_text.specs.Bytes.{IsText, Taken}
 use Rattle.schedule_text.specs.Schedules.{Progress}
+use Rattle.protocol.specs.History.{order_of, payloads_of}
+use Rattle.protocol_laws.specs.Exchange.{may_commit, OnlyAdds}
 use Rattle.protocol_laws.specs.Promises.{world_of}
+use Rattle.counters.specs.Histories.{total}
 use Rattle.replay_core.specs.declared.stops.ReplayStop.{ReplayStop}
 use Rattle.replay_core.specs.declared.stops.ReplayStop.TheVariants as stops
 use Rattle.replay_core.specs.Trace.{run_of}
@@ -29,8 +35,16 @@ pub record NamesOther (bytes : List ℕ) : Type 0 where
 
 -- ---- how it ends
 
+-- Two neighbours of the order, where each object that the second one writes and the first one reads is a counter to which
+-- both add, may be exchanged: the transactions may still commit in that order.
+abbrev pub ExchangesAdditions : List Note → Type 0
+ExchangesAdditions h =
+    (front : List Accesses) (a b : Accesses) (back : List Accesses) → payloads_of h (order_of h) ≡ front ++ (a ∷ b ∷ back)
+    → OnlyAdds b a → may_commit commute (front ++ (b ∷ a ∷ back)) ≡ true
+
 -- Ok: the bytes are the text of a schedule by the rule in which additions commute, whose run keeps within the limit and
--- keeps its promises; all was read, and what is told of its counters was written.
+-- keeps its promises; all was read, and what is told of its counters was written. No node has more of a counter than the
+-- sum over the order, and neighbours of the order that only add may be exchanged.
 pub record Totals (bytes left written : List ℕ) : Type 0 where
   pub setup : Deployment
   pub events : List Event
@@ -39,6 +53,8 @@ pub record Totals (bytes left written : List ℕ) : Type 0 where
   pub kept : Kept setup events
   pub at_end : left ≡ []
   pub told : IsTold setup.shards (world_of (run_of setup events)) written
+  pub within : (name : List ℕ) → told.held name ≤ total (world_of (run_of setup events)).history name
+  pub exchange : ExchangesAdditions (world_of (run_of setup events)).history
 
 -- another rule is named; of what follows these two lines at most 4,097 bytes were read
 pub record StopsAtRule (bytes left : List ℕ) : Type 0 where

@@ -8,8 +8,10 @@ ghost use Rattle.tcs_terms.specs.Setups.{Deployment};
 ghost use Rattle.schedule_text.specs.declared.limits.TheConstants.{EVENT_LIMIT};
 ghost use Rattle.schedule_text.specs.declared.places.Place.TheVariants as places;
 ghost use Rattle.schedule_text.specs.declared.reader.LineItem.{LineItem as Item};
+ghost use Rattle.protocol_laws.specs.Promises.{world_of};
 ghost use Rattle.world.specs.WorldState.{events_of};
 ghost use Rattle.replay_core.specs.Standing.{HasRead, RunsAt, StandsBegun, StopsStepping};
+ghost use Rattle.totals_core.specs.Holdings.{IsCountable};
 ghost use Rattle.totals_core.specs.Progressing.{HasRun, StopsNow};
 
 use replay_core::{Reading, ReplayStop};
@@ -33,6 +35,8 @@ pub(crate) fn run_events<G: VoteGuard, S: Source>(
         → (bytes : List ℕ) → HasRead bytes reading.old (S.left input.old) is
         → OnOk result (HasRun bytes (S.left input.new) world.new.setup world.new.progress) }
     ensures lives { OnOk result (world.new.spent ≡ false) }
+    ensures countable { OnOk result (IsCountable (world_of world.new.progress)) }
+    ensures some { OnOk result (1 ≤ world.new.setup.shards) }
     ensures stopped { (is : List Item) → StandsBegun G.Rule.tests places.Events reading.old world.old.setup world.old.progress is
         → (bytes : List ℕ) → HasRead bytes reading.old (S.left input.old) is
         → IfErr result (StopsNow bytes (S.left input.new)) }

@@ -1,13 +1,13 @@
 //! What the nodes of a world have of counters.
-ghost use Rattle.std.specs.Prelude.{◌≡◌, ◌≤◌, false, max, length, IfOk};
+ghost use Rattle.std.specs.Prelude.{◌≡◌, ◌≤◌, ◌+◌, false, IfOk, OnOk};
 ghost use Rattle.protocol_laws.specs.Promises.{world_of};
-ghost use Rattle.totals_core.specs.Holdings.{AreHoldings, IsCountable, held_by, holding_of};
+ghost use Rattle.totals_core.specs.Holdings.{AreBelow, AreHoldings, IsCountable, held_by, holding_of};
 
 use counters::{Sums, sums_of_rows};
 use std::alloc::Global;
 use tcs_laws::VoteGuard;
 use tcs_terms::limits::MAX_NODES;
-use tcs_terms::{Name, OutOfMemory, ShardId, shard_of};
+use tcs_terms::{Name, NodeId, OutOfMemory, ShardId, shard_of};
 use world::World;
 
 /// The sums of the committed rows of a node, and its shard.
@@ -28,15 +28,33 @@ pub(crate) fn holdings<G: VoteGuard>(
 {
     let mut all = Vec::new(alloc);
     for name in 1..MAX_NODES + 1 {
-        match world.node(name) {
-            Some(node) => all.push(Holding {
-                shard: node.shard(),
-                sums: sums_of_rows(alloc, node.rows())?,
-            })?,
-            None => {}
-        }
+        hold(alloc, world, name, &mut all)?;
     }
     Ok(all)
+}
+
+/// Appends the holding of the node of this name, where there is one.
+fn hold<G: VoteGuard>(
+    alloc: Global,
+    world: &World<G>,
+    name: NodeId,
+    all: &mut Vec<Holding>,
+) -> Result<(), OutOfMemory>
+    requires lives { world.now.spent ≡ false }
+    requires countable { IsCountable (world_of world.now.progress) }
+    ensures { OnOk result (AreBelow all.old.items (world_of world.now.progress).nodes name
+        → AreBelow all.new.items (world_of world.now.progress).nodes (name + 1)) }
+{
+    match world.node(name) {
+        Some(node) => {
+            all.push(Holding {
+                shard: node.shard(),
+                sums: sums_of_rows(alloc, node.rows())?,
+            })?;
+            Ok(())
+        }
+        None => Ok(()),
+    }
 }
 
 /// What a holding has of a counter, 0 where the counter lies in another shard than the node, among so many shards.

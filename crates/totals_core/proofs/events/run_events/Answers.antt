@@ -3,6 +3,7 @@ use Rattle.std.proofs.lemmas.Result.{err_from_is_err_and}
 use Rattle.replay_core.proofs.Going.{fewer, no_header, no_setup, may, few}
 use Rattle.replay_core.proofs.Heading.{header_unwritten}
 use Rattle.replay_core.proofs.Taking.{few_taken}
+use Rattle.totals_core.proofs.Countable.{countable, some_shards}
 use Rattle.totals_core.proofs.CommutingEvents.{ends, goes_at_first, goes_on, has_run, stops_at_end, stops_at_step, stops_taking}
 use Rattle.totals_core.proofs.events.run_events.Goals as goal
 
@@ -85,3 +86,15 @@ pub returns-in-End-clause-whole : goal.returns-in-End-clause-whole
 returns-in-End-clause-whole g c = λ is s bytes at.
     let e = ends _ c.args.reading.now c.lines.reading c.take.new.self _ _ _ _ _ _ (c.lines.invariant.works is s) (rw c.in-End.is at c.in_ok-event.ensures.item) in
     has_run _ bytes c.take.new.self c.take-in-End.new.self c.args.reading.now _ _ _ is _ _ _ e at c.in_ok-take-in-End.ensures.item
+
+pub returns-in-End-clause-countable : goal.returns-in-End-clause-countable
+returns-in-End-clause-countable g c =
+    let w = c.lines.invariant.works c.requires.begun.0 c.requires.begun.1 in
+    let e = ends _ c.args.reading.now c.lines.reading c.take.new.self _ _ _ _ _ _ w (rw c.in-End.is at c.in_ok-event.ensures.item) in
+    countable _ c.take.new.self _ _ e.items e.stands
+
+pub returns-in-End-clause-some : goal.returns-in-End-clause-some
+returns-in-End-clause-some g c =
+    let w = c.lines.invariant.works c.requires.begun.0 c.requires.begun.1 in
+    let e = ends _ c.args.reading.now c.lines.reading c.take.new.self _ _ _ _ _ _ w (rw c.in-End.is at c.in_ok-event.ensures.item) in
+    some_shards _ c.take.new.self _ _ e.items e.stands
