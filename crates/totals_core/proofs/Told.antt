@@ -25,6 +25,7 @@ use Rattle.replay_core.proofs.Working.{kept_is, within_nothing}
 use Rattle.totals_core.specs.Progressing.{BegunCommuting, HasRun, StopsNow, Tells, TellsFront, TellsInPart}
 use Rattle.totals_core.specs.Telling.{IsTold}
 use Rattle.totals_core.specs.Totalling.{Ends, Finishes, ReadOn, Stops, StopsTelling, Totals}
+use Rattle.totals_core.proofs.Begun.{commute_read}
 use Rattle.totals_core.proofs.Stopping.{read_on_in_hand, some_is}
 use Rattle.totals_core.proofs.Theorems.{exchanges, within}
 
@@ -51,7 +52,7 @@ pub stops_begun : (bytes : List ℕ) (r : Reading) (first left : Option (List �
 stops_begun bytes r first left d b told =
     let e = ends_begun bytes [] r first left (Some []) d b.begun told refl in
     let read = b.begun.read bytes told in
-    let commute : r.reader.head.setup.rule ≡ rules.Commute = ap (λ (f : Deployment). f.rule) (sym b.begun.setup) ∙ b.commute in
+    let commute = commute_read r first left d b in
     let on = read_on_in_hand bytes r left left (b.begun.items ++ items.Begun d ∷ []) b.begun.items (items.Begun d) read.0 b.many commute read.1 in
     (e.rest, e.told, inl (refl, subst (ReadOn bytes) (some_is read.1.rest e.rest (sym read.1.told ∙ e.told)) on, (e.written, e.stopped)))
 

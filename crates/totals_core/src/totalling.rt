@@ -61,6 +61,24 @@ pub fn totals<S: Source, K: Sink>(
     ensures read_fault { IsErrOf result ReplayStop.ReadFault → Rose (S.faults input.old) (S.faults input.new) }
     ensures write_fault { IsErrOf result ReplayStop.WriteFault → Rose (K.faults output.old) (K.faults output.new) }
 {
+    run_and_tell(alloc, input, output)
+}
+
+/// Reads the schedule, runs it, and tells what its counters are worth.
+fn run_and_tell<S: Source, K: Sink>(
+    alloc: Global,
+    input: &mut S,
+    output: &mut K,
+) -> Result<(), ReplayStop>
+    ensures whole { (bytes before : List ℕ) → S.left input.old ≡ Some bytes → K.held output.old ≡ Some before
+        → OnOk result (Finishes bytes before (S.left input.new) (K.held output.new)) }
+    ensures stopped { (bytes before : List ℕ) → S.left input.old ≡ Some bytes → K.held output.old ≡ Some before
+        → IfErr result (Ends bytes before (S.left input.new) (K.held output.new)) }
+    ensures read { S.faults input.old ≤ S.faults input.new }
+    ensures wrote { K.faults output.old ≤ K.faults output.new }
+    ensures read_fault { IsErrOf result ReplayStop.ReadFault → Rose (S.faults input.old) (S.faults input.new) }
+    ensures write_fault { IsErrOf result ReplayStop.WriteFault → Rose (K.faults output.old) (K.faults output.new) }
+{
     let mut reading = Reading::begin(alloc)?;
     let setup = commuting_header(&mut reading, input)?;
     let mut world = World::<CommuteIndex>::new(alloc, setup)?;
