@@ -59,14 +59,13 @@ stops_begun bytes r first left d b told =
 -- ---- all was read
 
 module _ (bytes : List ℕ) (left : Option (List ℕ)) (setup : Deployment) (p : Run) (run : HasRun bytes left setup p) where
-  w : World
+  abbrev w : World
   w = world_of (run_of setup run.events)
 
   same : world_of p ≡ w
   same = ap world_of run.so_far
 
   totals_of : (text : List ℕ) → IsTold setup.shards (world_of p) text → Totals bytes [] text
-  unfolding w
   totals_of text told =
       let now : IsTold setup.shards w text = subst (λ (x : World). IsTold setup.shards x text) same told in
       record {

@@ -50,8 +50,9 @@ fn text_of<G: VoteGuard>(alloc: Global, world: &World<G>) -> Result<Vec<u8>, Out
     let totals = totals_of(alloc, world.history())?;
     let holdings = holdings(alloc, world)?;
     let mut text = Vec::new(alloc);
-    put_totals(totals.sums(), &holdings, world.setup().shards(), &mut text)?;
-    put_end(totals.sums().len() as u64, &mut text)?;
+    let sums = totals.sums();
+    put_totals(sums, &holdings, world.setup().shards(), &mut text)?;
+    put_end(sums.len() as u64, &mut text)?;
     Ok(text)
 }
 

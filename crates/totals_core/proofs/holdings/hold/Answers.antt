@@ -6,8 +6,8 @@ pub sums_of_rows-requires : goal.sums_of_rows-requires
 sums_of_rows-requires g c =
     rw c.rows.ensures (c.requires.countable.rows c.in-Some.node.now.kept (found_there _ c.args.name _ (sym (c.in-Some.ensures c.requires.lives))).0)
 
-pub returns-in-Some : goal.returns-in-Some
-returns-in-Some g c = λ below.
+pub returns-in_ok-push-in-Some : goal.returns-in_ok-push-in-Some
+returns-in_ok-push-in-Some g c = λ below.
     rw c.in_ok-push-in-Some.ensures.items
     (below_found _ c.requires.countable.count c.args.name c.args.all.now.items _ c.in-Some.node.now.kept c.requires.countable.names (sym (c.in-Some.ensures c.requires.lives))
     (record { shard = c.shard.ensures; sums = rw c.rows.ensures at c.in_ok-sums_of_rows-in-Some.ensures }) below)
