@@ -13,8 +13,8 @@ totals_of-requires g c = rw c.history.ensures (few_notes _ c.requires.countable)
 
 pub returns : goal.returns
 returns g c = record {
-  sums = c.sums.result.now;
-  are = subst (λ (h : List Note). AreSums c.sums.result.now (payloads_of h (order_of h))) c.history.ensures (c.sums.ensures _ c.in_ok-totals.ensures);
+  sums = c.sums-sums.result.now;
+  are = subst (λ (h : List Note). AreSums c.sums-sums.result.now (payloads_of h (order_of h))) c.history.ensures (c.sums-sums.ensures _ c.in_ok-totals.ensures);
   ordered = c.len.ensures.ordered;
   held = held_by c.args.world.now.setup.shards c.in_ok-holdings.holdings.items;
   greatest = is_held c.args.world.now.setup.shards c.in_ok-holdings.holdings.items _ c.in_ok-holdings.ensures;
