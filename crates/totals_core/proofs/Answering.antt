@@ -1,17 +1,16 @@
 -- Which answer comes: a text of commuting additions whose run keeps within the limit has no stop but want of memory; where
 -- another rule is named, or a first line is bad, or a first event passes the limit, that stop alone comes.
-use Rattle.std.proofs.Common.{◌≡◌, ◌⊎◌, inl, inr, ℕ, ◌≤◌, true, List, [], Option, Some, Result, Ok, Err, OnOk, IfErr, refl, sym, ◌∙◌, ap, subst, arith}
+use Rattle.std.proofs.Common.{◌≡◌, ◌⊎◌, inl, inr, ℕ, true, List, [], Option, Some, Result, Ok, Err, OnOk, IfErr, refl, sym, ◌∙◌, ap, arith}
 use Rattle.std.specs.Prelude.{IsErrOf}
 use Rattle.tcs_io.specs.Faults.{Rose}
 use Rattle.tcs_terms.specs.declared.inputs.Event.{Event}
-use Rattle.tcs_terms.specs.declared.setups.Rule.{Rule}
 use Rattle.tcs_terms.specs.declared.setups.Rule.TheVariants as rules
 use Rattle.text_words.specs.declared.words.Reason.{Reason}
 use Rattle.text_words.specs.declared.words.Reason.TheVariants as reasons
 use Rattle.tcs_terms.specs.Setups.{Deployment}
 use Rattle.schedule_text.specs.declared.reader.LineItem.{LineItem}
 use Rattle.schedule_text.specs.Bytes.{IsText, FirstBad}
-use Rattle.schedule_text.proofs.FirstBadLines.{no_text_is_bad, one_first_bad}
+use Rattle.schedule_text.proofs.FirstBadLines.{no_text_is_bad}
 use Rattle.replay_core.specs.declared.stops.ReplayStop.{ReplayStop}
 use Rattle.replay_core.specs.declared.stops.ReplayStop.TheVariants as stops
 use Rattle.replay_core.specs.Trace.{run_of, is_live, trace}

@@ -1,5 +1,5 @@
 -- From event to event of a schedule whose rule is that additions commute: nothing is written.
-use Rattle.std.proofs.Common.{◌≡◌, inl, inr, ℕ, ◌+◌, ◌≤◌, List, [], ◌∷◌, ◌++◌, length, Option, Some, Ok, refl, sym, ◌∙◌, ap, subst, arith}
+use Rattle.std.proofs.Common.{◌≡◌, inl, ℕ, ◌≤◌, List, [], ◌∷◌, ◌++◌, length, Option, Some, Ok, refl, sym, ◌∙◌, subst, arith}
 use Rattle.tcs_terms.specs.declared.inputs.Event.{Event}
 use Rattle.tcs_terms.specs.declared.setups.Rule.TheVariants as rules
 use Rattle.tcs_terms.specs.Setups.{Deployment}
@@ -7,7 +7,7 @@ use Rattle.tcs_laws.specs.Certification.{Tests}
 use Rattle.schedule_text.specs.declared.places.Place.TheVariants as places
 use Rattle.schedule_text.specs.declared.reader.LineItem.{LineItem}
 use Rattle.schedule_text.specs.declared.reader.LineItem.TheVariants as items
-use Rattle.schedule_text.specs.Bytes.{IsText, events_on}
+use Rattle.schedule_text.specs.Bytes.{events_on}
 use Rattle.protocol.specs.Limit.{Progress as Run, Answer, limited_step}
 use Rattle.protocol.specs.Limit.Answer.{Happens, SoupFull}
 use Rattle.protocol_laws.specs.Promises.{world_of}
@@ -16,10 +16,9 @@ use Rattle.world.specs.WorldState.{Tells as WorldTells, events_of}
 use Rattle.replay_core.specs.declared.reading.Reading.{Reading}
 use Rattle.replay_core.specs.declared.stops.ReplayStop.{ReplayStop}
 use Rattle.replay_core.specs.declared.stops.ReplayStop.TheVariants as stops
-use Rattle.replay_core.specs.Replays.{Kept, shown}
+use Rattle.replay_core.specs.Replays.{shown}
 use Rattle.replay_core.specs.Standing.{HasRead, IsAt, RunsAt, StandsBegun, StopsStepping, Takes, Refuses}
 use Rattle.replay_core.specs.Steps.{Tells}
-use Rattle.replay_core.specs.Trace.{run_of}
 use Rattle.replay_core.proofs.Finishing.{at_end}
 use Rattle.replay_core.proofs.Going.{ended, new_standing, stops_stepping, whole_line}
 use Rattle.replay_core.proofs.Promised.{kept, are_events}

@@ -1,8 +1,7 @@
 -- The header of a schedule whose rule is that additions commute.
-use Rattle.std.proofs.Common.{◌≡◌, ◌⊎◌, inl, inr, ℕ, ◌+◌, ◌<◌, ◌≤◌, List, [], ◌∷◌, ◌++◌, length, Option, Some, refl, sym, ◌∙◌, ap, subst, length-append, arith}
+use Rattle.std.proofs.Common.{◌≡◌, ◌⊎◌, inl, inr, ℕ, ◌+◌, ◌<◌, ◌≤◌, List, [], ◌∷◌, ◌++◌, Option, refl, sym, ◌∙◌, ap, subst, arith}
 use Rattle.std.proofs.Math.Nat.{eq-or-lt_of_le}
 use Rattle.text_words.specs.declared.words.Reason.TheVariants as reasons
-use Rattle.tcs_terms.specs.declared.setups.Rule.{Rule}
 use Rattle.tcs_terms.specs.declared.setups.Rule.TheVariants as rules
 use Rattle.tcs_terms.specs.Setups.{Deployment}
 use Rattle.schedule_text.specs.declared.reader.LineItem.{LineItem}
@@ -13,7 +12,7 @@ use Rattle.replay_core.specs.declared.reading.Reading.{Reading}
 use Rattle.replay_core.specs.declared.stops.ReplayStop.{ReplayStop}
 use Rattle.replay_core.specs.declared.stops.ReplayStop.TheVariants as stops
 use Rattle.replay_core.specs.Replays.{KeptBy, KeptOn}
-use Rattle.replay_core.specs.Standing.{InHeader, Refuses, Takes}
+use Rattle.replay_core.specs.Standing.{Refuses, Takes}
 use Rattle.replay_core.proofs.Heading.{first_header, whole_of, header_on, header_begun}
 use Rattle.replay_core.proofs.Taking.{stands_on}
 use Rattle.totals_core.specs.Progressing.{InCommuting, BegunCommuting, StopsUnwritten}

@@ -1,20 +1,18 @@
 -- What holds of the counters of each run.
-use Rattle.std.proofs.Common.{◌≡◌, ◌⊎◌, inl, inr, ℕ, ◌≤◌, true, List, [], ◌∷◌, ◌++◌, sym, ap, subst, arith, ◌∙◌, refl}
+use Rattle.std.proofs.Common.{◌≡◌, ◌⊎◌, inl, inr, ℕ, ◌≤◌, true, List, sym, subst, arith}
 use Rattle.tcs_terms.specs.declared.inputs.Event.{Event}
-use Rattle.tcs_terms.specs.declared.inputs.Note.{Note}
 use Rattle.tcs_terms.specs.declared.setups.Rule.{Rule}
 use Rattle.tcs_terms.specs.declared.setups.Rule.TheVariants as rules
 use Rattle.tcs_terms.specs.Payloads.{Accesses}
 use Rattle.tcs_terms.specs.Setups.{Deployment}
 use Rattle.cert_commute.specs.Commute.{commute}
 use Rattle.protocol.specs.CorrectHistory.{is_legal}
-use Rattle.protocol.specs.History.{order_of, payloads_of}
 use Rattle.protocol.specs.Invariant.Time.{StandsIn, time_after}
 use Rattle.protocol.specs.Limit.{Progress as Run}
 use Rattle.protocol.specs.Limit.Progress.{Live, Ended}
 use Rattle.protocol.specs.Records.{NodeRecord}
 use Rattle.protocol.specs.World.{World}
-use Rattle.protocol_laws.specs.Exchange.{may_commit, OnlyAdds}
+use Rattle.protocol_laws.specs.Exchange.{may_commit}
 use Rattle.protocol_laws.specs.Promises.{KeepsItsPromises, world_of}
 use Rattle.protocol_laws.specs.Told.{ToldRightly}
 use Rattle.protocol_laws.proofs.Exchanges.{exchange-additions, legal-may_commit}
@@ -23,7 +21,7 @@ use Rattle.counters.specs.Histories.{total}
 use Rattle.counter_laws.proofs.NodeTotals.{node_within}
 use Rattle.replay_core.specs.Replays.{Kept}
 use Rattle.replay_core.specs.Trace.{run_of, is_live, tests_of}
-use Rattle.totals_core.specs.Telling.{Holds, IsHeld, IsTold}
+use Rattle.totals_core.specs.Telling.{Holds, IsTold}
 use Rattle.totals_core.specs.Totalling.{ExchangesAdditions}
 
 -- no node has more of a counter than the sum over the order

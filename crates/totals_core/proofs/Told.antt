@@ -1,12 +1,8 @@
 -- What was told of a run, and how a stop ends.
-use Rattle.std.proofs.Common.{◌≡◌, inl, inr, ℕ, ◌+◌, ◌≤◌, true, List, [], ◌∷◌, ◌++◌, length, take, drop, Option, Some, Result, Ok, Err, OnOk, IfErr, refl, sym, ◌∙◌, ap, subst, append_assoc, append-nil, arith}
+use Rattle.std.proofs.Common.{◌≡◌, inl, inr, ℕ, List, [], ◌∷◌, ◌++◌, length, take, drop, Option, Some, Result, Ok, Err, OnOk, IfErr, refl, sym, ◌∙◌, ap, subst, append-nil, arith}
 use Rattle.std.proofs.lemmas.List.{take-append-drop}
-use Rattle.tcs_io.specs.Bytes.{HoldsFront}
-use Rattle.tcs_terms.specs.declared.setups.Rule.TheVariants as rules
-use Rattle.tcs_terms.specs.Payloads.{Accesses}
 use Rattle.tcs_terms.specs.Setups.{Deployment}
 use Rattle.schedule_text.specs.declared.reader.LineItem.TheVariants as items
-use Rattle.schedule_text.specs.Bytes.{events_on, setups_on}
 use Rattle.schedule_text.specs.Schedules.{at_start}
 use Rattle.schedule_text.specs.Whole.{at_end, schedule_items}
 use Rattle.schedule_text.specs.Text.{schedule_lines}
@@ -19,7 +15,7 @@ use Rattle.replay_core.specs.declared.reading.Reading.{Reading}
 use Rattle.replay_core.specs.declared.stops.ReplayStop.{ReplayStop}
 use Rattle.replay_core.specs.declared.stops.ReplayStop.TheVariants as stops
 use Rattle.replay_core.specs.Replays.{Kept, KeptOn, Worked, shown}
-use Rattle.replay_core.specs.Trace.{run_of, tests_of}
+use Rattle.replay_core.specs.Trace.{run_of}
 use Rattle.replay_core.proofs.Heading.{ends_begun, ends_unbegun}
 use Rattle.replay_core.proofs.Working.{kept_is, within_nothing}
 use Rattle.totals_core.specs.Progressing.{BegunCommuting, HasRun, StopsNow, Tells, TellsFront, TellsInPart}

@@ -61,13 +61,18 @@ const SERIAL: &str = "tcs 1\ncertifier serial\nshards 1\nnode 1 1\nconfig 1 1 1\
 const NO_EVENTS: &str = "tcs 1\ncertifier commute\nshards 1\nnode 1 1\nconfig 1 1 1\nevents\nend\n";
 
 /// The seventh line is no event.
-const BAD_EVENT: &str = "tcs 1\ncertifier commute\nshards 1\nnode 1 1\nconfig 1 1 1\nevents\nadd 1\nend\n";
+const BAD_EVENT: &str =
+    "tcs 1\ncertifier commute\nshards 1\nnode 1 1\nconfig 1 1 1\nevents\nadd 1\nend\n";
 
 #[test]
 fn the_counters_of_a_run_are_told(rt: HostRuntime) -> Result<(), Fail> {
     let table = [
         (COMMUTING, Ok(()), "total n_x 12 5\nend 1\n"),
-        (AT_THE_LIMIT, Ok(()), "total n_x 2199023255550 2199023255550\ntotal n_y 0 0\nend 2\n"),
+        (
+            AT_THE_LIMIT,
+            Ok(()),
+            "total n_x 2199023255550 2199023255550\ntotal n_y 0 0\nend 2\n",
+        ),
         (NO_EVENTS, Ok(()), "end 0\n"),
         (SERIAL, Err(bad(2)), ""),
         (BAD_EVENT, Err(bad(7)), ""),
