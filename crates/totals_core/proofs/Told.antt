@@ -23,7 +23,7 @@ use Rattle.totals_core.specs.Telling.{IsTold}
 use Rattle.totals_core.specs.Totalling.{Ends, Finishes, ReadOn, Stops, StopsTelling, Totals}
 use Rattle.totals_core.proofs.Begun.{commute_read}
 use Rattle.totals_core.proofs.Stopping.{read_on_in_hand, some_is}
-use Rattle.totals_core.proofs.Theorems.{exchanges, within}
+use Rattle.totals_core.proofs.Theorems.{equal, exchanges, within}
 
 -- nothing was written
 pub ends_unwritten : (bytes before : List ℕ) (left held : Option (List ℕ)) (stop : ReplayStop) → held ≡ Some before → StopsNow bytes left stop → Ends bytes before left held stop
@@ -73,6 +73,7 @@ module _ (bytes : List ℕ) (left : Option (List ℕ)) (setup : Deployment) (p :
         at_end = refl;
         told = now;
         within = within setup run.events text run.kept now;
+        equal = equal setup run.events text run.text.schedule run.kept now;
         exchange = exchanges setup run.events run.kept run.commute;
       }
 

@@ -1,20 +1,24 @@
 -- What `totals` answers, and what it has read and written by then.
-use Rattle.std.specs.Prelude.{◌≡◌, ◌⊎◌, ℕ, ◌+◌, ◌≤◌, true, List, [], ◌∷◌, ◌++◌, length, Option, Some}
+use Rattle.std.specs.Prelude.{◌≡◌, ◌⊎◌, ℕ, ◌+◌, ◌≤◌, IsTrue, true, List, [], ◌∷◌, ◌++◌, length, Option, Some}
 use Rattle.tcs_terms.specs.declared.inputs.Event.{Event}
 use Rattle.tcs_terms.specs.declared.inputs.Note.{Note}
 use Rattle.tcs_terms.specs.declared.setups.Rule.TheVariants as rules
 use Rattle.text_words.specs.declared.words.Reason.TheVariants as reasons
 use Rattle.tcs_terms.specs.Payloads.{Accesses}
 use Rattle.tcs_terms.specs.Setups.{Deployment}
+use Rattle.tcs_terms.specs.Shards.{lies_in}
 use Rattle.cert_commute.specs.Commute.{commute}
 use Rattle.schedule_text.specs.declared.limits.TheConstants.{LINE_LIMIT}
 use Rattle.schedule_text.specs.declared.reader.LineItem.{LineItem}
 use Rattle.schedule_text.specs.Bytes.{IsText, Taken}
 use Rattle.schedule_text.specs.Schedules.{Progress}
 use Rattle.protocol.specs.History.{order_of, payloads_of}
+use Rattle.protocol.specs.Invariant.Time.{StandsIn}
+use Rattle.protocol.specs.Records.{NodeRecord}
 use Rattle.protocol_laws.specs.Exchange.{may_commit, OnlyAdds}
 use Rattle.protocol_laws.specs.Promises.{world_of}
 use Rattle.counters.specs.Histories.{total}
+use Rattle.counter_laws.specs.Marked.{HasEach}
 use Rattle.replay_core.specs.declared.stops.ReplayStop.{ReplayStop}
 use Rattle.replay_core.specs.declared.stops.ReplayStop.TheVariants as stops
 use Rattle.replay_core.specs.Trace.{run_of}
@@ -43,8 +47,9 @@ ExchangesAdditions h =
     → OnlyAdds b a → may_commit commute (front ++ (b ∷ a ∷ back)) ≡ true
 
 -- Ok: the bytes are the text of a schedule by the rule in which additions commute, whose run keeps within the limit and
--- keeps its promises; all was read, and what is told of its counters was written. No node has more of a counter than the
--- sum over the order, and neighbours of the order that only add may be exchanged.
+-- keeps its promises; all was read, and what is told of its counters was written. What is told as held of a counter is at
+-- most the sum over the order, and as much where a node of its shard has each committed addition marked; neighbours of the
+-- order that only add may be exchanged.
 pub record Totals (bytes left written : List ℕ) : Type 0 where
   pub setup : Deployment
   pub events : List Event
@@ -54,6 +59,8 @@ pub record Totals (bytes left written : List ℕ) : Type 0 where
   pub at_end : left ≡ []
   pub told : IsTold setup.shards (world_of (run_of setup events)) written
   pub within : (name : List ℕ) → told.held name ≤ total (world_of (run_of setup events)).history name
+  pub equal : (node : NodeRecord) → StandsIn node (world_of (run_of setup events)).nodes → (name : List ℕ) → IsTrue (lies_in setup.shards node.shard name)
+      → HasEach (world_of (run_of setup events)).history node.rows name → told.held name ≡ total (world_of (run_of setup events)).history name
   pub exchange : ExchangesAdditions (world_of (run_of setup events)).history
 
 -- another rule is named; of what follows these two lines at most 4,097 bytes were read
