@@ -1,0 +1,6 @@
+pub mod Texts
+pub mod Stops
+pub mod Files
+pub mod Printed
+pub mod Restores
+pub mod Steps
