@@ -52,7 +52,3 @@ Tells answer (Err (stops.BadBackup line)) = answer ≡ BadLine line
 Tells answer (Err stops.ReadFault) = ⊥
 Tells answer (Err stops.WriteFault) = ⊥
 Tells answer (Err stops.OutOfMemory) = Unit {0}
-
--- the bytes were read so far
-abbrev pub Ends : {V : Type 0} → (bytes : List ℕ) → (left : Option (List ℕ)) → Result V RestoreStop → Type 0
-Ends bytes left r = Unit {0}

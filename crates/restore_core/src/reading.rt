@@ -1,8 +1,7 @@
 //! The input of a restore: the lines of a backup file, taken one after the other.
-ghost use Rattle.std.specs.Prelude.{◌≡◌, ◌≤◌, ◌<◌, ◌+◌, ℕ, true, false, List, ◌∷◌, Some, IfOk, OnOk, IsErrOf};
+ghost use Rattle.std.specs.Prelude.{◌≡◌, ◌≤◌, ◌<◌, ◌+◌, ℕ, true, false, List, [], ◌∷◌, Some, IfOk, OnOk, IsErrOf};
 ghost use Rattle.tcs_io.specs.Faults.{Rose};
-ghost use Rattle.restore_core.specs.Files.{AreRestored};
-ghost use Rattle.restore_core.specs.Restores.{Ends};
+ghost use Rattle.restore_core.specs.Files.{AreRestored, BadLine, Restores, answer_of};
 ghost use Rattle.restore_core.specs.Steps.{IsFresh, IsBehind, Goes, Says, Takes, answer_behind, ends_here, ended_with, kept_with};
 
 use crate::stops::RestoreStop;
@@ -118,7 +117,10 @@ impl Reading {
 
 /// Reads a file to its end, line by line, and gives its objects.
 pub(crate) fn read_file<S: Source>(alloc: Global, input: &mut S) -> Result<Vec<Kept>, RestoreStop>
-    ensures ends { (bytes : List ℕ) → S.left input.old ≡ Some bytes → Ends bytes (S.left input.new) result }
+    ensures file { (bytes : List ℕ) → S.left input.old ≡ Some bytes
+        → IfOk result (λ kept. (answer_of bytes ≡ Restores kept.items) × (S.left input.new ≡ Some [])) }
+    ensures bad { (bytes : List ℕ) → S.left input.old ≡ Some bytes
+        → (line : ℕ) → IsErrOf result (RestoreStop.BadBackup line) → answer_of bytes ≡ BadLine line }
     ensures kept { IfOk result (λ kept. AreRestored kept.items) }
     ensures fault { IsErrOf result RestoreStop.ReadFault → Rose (S.faults input.old) (S.faults input.new) }
     ensures reads { IsErrOf result RestoreStop.WriteFault → ⊥ }
