@@ -5,4 +5,5 @@ pub mod Objects
 pub mod Stepping
 pub mod Ending
 pub mod Schedules
+pub mod PlainLines
 pub mod Files
