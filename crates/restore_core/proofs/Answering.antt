@@ -6,12 +6,13 @@ use Rattle.std.proofs.lemmas.Bool.{cond_both, cond-true, cond-false}
 use Rattle.schedule_text.specs.Lines.{line_feed, has_feed}
 use Rattle.backup_machine.specs.declared.objects.Kept.{Kept}
 use Rattle.backup_text.specs.declared.items.BackupItem.{BackupItem}
+use Rattle.backup_text.specs.declared.limits.TheConstants.{MAX_LINE}
 use Rattle.backup_text.specs.Lines.{Line, HeadLine, CallLine, PlaceLine, ObjectLine, EndLine, Standing, after, item_of}
 use Rattle.backup_text.specs.Readings.{line_in, Takes}
 use Rattle.restore_core.specs.Files.{Answer, Restores, BadLine, at_end, is_ended, kept_on, with_line, answer_from}
 use Rattle.restore_core.specs.Steps.{kept_with}
-use Rattle.restore_core.specs.Texts.{Lines, with_byte, lines_of, is_too_long}
-use Rattle.restore_core.proofs.Lines.{both, put_before, lines_behind, line_then, no_line, still_long}
+use Rattle.long_lines.specs.Texts.{Lines, with_byte, lines_of, is_too_long}
+use Rattle.long_lines.proofs.Lines.{both, put_before, lines_behind, line_then, no_line, still_long}
 
 -- the answer to bytes, from here on
 abbrev pub answer_bytes : Standing → List Kept → ℕ → List ℕ → Answer
@@ -60,7 +61,7 @@ unbroken (b ∷ bs) e =
 
 -- a text is too long
 pub answer_long : (s : Standing) (kept : List Kept) (lines : ℕ) (all text more : List ℕ) → has_feed text ≡ false → all ≡ text ++ more
-    → 0 < length all → is_too_long text ≡ true → answer_bytes s kept lines all ≡ BadLine (lines + 1)
+    → 0 < length all → is_too_long MAX_LINE text ≡ true → answer_bytes s kept lines all ≡ BadLine (lines + 1)
 answer_long s kept lines all text more none is some long =
     ap (answer_bytes s kept lines) is ∙ ap (λ (l : Lines). answer_from s kept lines l.whole l.rest) (lines_behind text more none)
     ∙ go (lines_of more).whole (lines_of more).rest (unbroken more)
@@ -68,9 +69,9 @@ answer_long s kept lines all text more none is some long =
     go : (whole : List (List ℕ)) (rest : List ℕ) → (whole ≡ [] → rest ≡ more)
         → answer_from s kept lines (put_before text whole rest).whole (put_before text whole rest).rest ≡ BadLine (lines + 1)
     go [] rest same = left_over (is_ended s.stage) kept lines (text ++ rest) (subst (λ (bs : List ℕ). 0 < length bs) (is ∙ ap (λ (bs : List ℕ). text ++ bs) (sym (same refl))) some)
-    go (line ∷ others) rest same = cond-true (is_too_long (text ++ line)) (BadLine (lines + 1))
+    go (line ∷ others) rest same = cond-true (is_too_long MAX_LINE (text ++ line)) (BadLine (lines + 1))
         (with_line (line_in s (text ++ line)) (lines + 1) (λ l. answer_from (after s l) (kept_on kept l) (lines + 1) others rest))
-        (still_long text line long)
+        (still_long MAX_LINE text line long)
 
 -- ---- one line
 
@@ -97,23 +98,23 @@ same_kept kept (ObjectLine object) = refl
 same_kept kept (EndLine count) = append-nil kept
 
 -- the answer goes on behind it
-pub answer_on : (s s' : Standing) (kept : List Kept) (lines : ℕ) (text : List ℕ) (item : BackupItem) → is_too_long text ≡ false
+pub answer_on : (s s' : Standing) (kept : List Kept) (lines : ℕ) (text : List ℕ) (item : BackupItem) → is_too_long MAX_LINE text ≡ false
     → Took s s' text item → (texts : List (List ℕ)) (rest : List ℕ)
     → answer_from s kept lines (text ∷ texts) rest ≡ answer_from s' (kept_with kept item) (lines + 1) texts rest
 answer_on s s' kept lines text item short t texts rest =
     let more : Line → Answer = λ l. answer_from (after s l) (kept_on kept l) (lines + 1) texts rest in
-    cond-false (is_too_long text) (BadLine (lines + 1)) (with_line (line_in s text) (lines + 1) more) short
+    cond-false (is_too_long MAX_LINE text) (BadLine (lines + 1)) (with_line (line_in s text) (lines + 1) more) short
     ∙ ap (λ o. with_line o (lines + 1) more) t.read
     ∙ ap (λ (u : Standing). answer_from u (kept_on kept t.line) (lines + 1) texts rest) (sym t.behind)
     ∙ ap (λ (ks : List Kept). answer_from s' ks (lines + 1) texts rest) (same_kept kept t.line ∙ ap (kept_with kept) (sym t.item_is))
 
 -- no line was read: it is bad
-pub answer_bad : (s s' : Standing) (kept : List Kept) (lines : ℕ) (text : List ℕ) → is_too_long text ≡ false
+pub answer_bad : (s s' : Standing) (kept : List Kept) (lines : ℕ) (text : List ℕ) → is_too_long MAX_LINE text ≡ false
     → Takes s s' None (line_in s text) → (texts : List (List ℕ)) (rest : List ℕ)
     → answer_from s kept lines (text ∷ texts) rest ≡ BadLine (lines + 1)
 answer_bad s s' kept lines text short takes texts rest =
     let more : Line → Answer = λ l. answer_from (after s l) (kept_on kept l) (lines + 1) texts rest in
-    cond-false (is_too_long text) (BadLine (lines + 1)) (with_line (line_in s text) (lines + 1) more) short
+    cond-false (is_too_long MAX_LINE text) (BadLine (lines + 1)) (with_line (line_in s text) (lines + 1) more) short
     ∙ ap (λ o. with_line o (lines + 1) more) (none (line_in s text) takes.item_is)
   where
     none : (o : Option Line) → None ≡ option_map item_of o → o ≡ None

@@ -9,13 +9,14 @@ use Rattle.schedule_text.specs.Text.{with_feed}
 use Rattle.backup_machine.specs.declared.objects.Kept.{Kept}
 use Rattle.backup_text.specs.declared.stages.Stage.{Stage}
 use Rattle.backup_text.specs.declared.stages.Stage.TheVariants.{Start, Begun, AtPlace, NoPlace, Ended}
+use Rattle.backup_text.specs.declared.limits.TheConstants.{MAX_LINE}
 use Rattle.backup_text.specs.Lines.{Line, Standing, MayStand, after, at_start, line_text, printed}
 use Rattle.backup_text.specs.Readings.{line_in}
 use Rattle.backup_text.proofs.LineWords.{line_takes, line_again}
 use Rattle.restore_core.specs.Files.{Answer, Restores, BadLine, IsFile, Stand, at_end, answer_from, answer_of, is_ended, kept_on, object_on, objects_on, with_line}
 use Rattle.restore_core.specs.Steps.{Behind}
-use Rattle.restore_core.specs.Texts.{Lines, lines_of, with_byte, is_too_long}
-use Rattle.restore_core.proofs.Lines.{both}
+use Rattle.long_lines.specs.Texts.{Lines, lines_of, with_byte, is_too_long}
+use Rattle.long_lines.proofs.Lines.{both}
 use Rattle.restore_core.proofs.Answering.{answer_behind_text, answer_bytes}
 use Rattle.restore_core.proofs.Objects.{behind_more, none_behind}
 use Rattle.restore_core.proofs.PlainLines.{one_line, short_line}
@@ -35,7 +36,7 @@ from_lines (line ∷ lines) s t kept n b (may, others) ended =
     let more : List ℕ = flat_map printed lines in
     let next : Line → Answer = λ l. answer_from (after s l) (kept_on kept l) (n + 1) (lines_of more).whole (lines_of more).rest in
     answer_behind_text s kept n (flat_map printed (line ∷ lines)) (line_text line) more (one_line s kept line b may) (append_assoc (line_text line) (codes "\n") more)
-    ∙ cond-false (is_too_long (line_text line)) (BadLine (n + 1)) (with_line (line_in s (line_text line)) (n + 1) next) (short_line s kept line b may)
+    ∙ cond-false (is_too_long MAX_LINE (line_text line)) (BadLine (n + 1)) (with_line (line_in s (line_text line)) (n + 1) next) (short_line s kept line b may)
     ∙ ap (λ (o : Option Line). with_line o (n + 1) next) (line_again s line (record { few = b.few }) may)
     ∙ from_lines lines (after s line) t (kept_on kept line) (n + 1) (behind_more s kept line b may) others ended
     ∙ ap Restores (objects_join kept line lines)
@@ -96,7 +97,7 @@ at_the_end s kept objects n rest is = go (is_ended s.stage) rest refl is
 
 to_lines : (texts : List (List ℕ)) (s : Standing) (kept objects : List Kept) (n : ℕ) (rest : List ℕ) → answer_from s kept n texts rest ≡ Restores objects → HasLines s kept texts rest objects
 to_lines [] s kept objects n rest is = at_the_end s kept objects n rest is
-to_lines (text ∷ texts) s kept objects n rest is = short (is_too_long text) is
+to_lines (text ∷ texts) s kept objects n rest is = short (is_too_long MAX_LINE text) is
   where
     next : Line → Answer
     next l = answer_from (after s l) (kept_on kept l) (n + 1) texts rest

@@ -1,5 +1,3 @@
-pub mod Lines
-pub mod Pieces
 pub mod Answering
 pub mod Objects
 pub mod Stepping

@@ -25,7 +25,7 @@ use Rattle.backup_text.specs.declared.limits.TheConstants.{MAX_CALL, MAX_LINE}
 use Rattle.backup_text.specs.Lines.{Line, HeadLine, CallLine, PlaceLine, ObjectLine, EndLine, Standing, MayStand, IsPlace, is_call, line_text, place_text, seen_text}
 use Rattle.backup_text.proofs.Cuts.{lacks}
 use Rattle.backup_text.proofs.PlainWords.{decimal_lacks, name_lacks, txn_lacks}
-use Rattle.restore_core.specs.Texts.{is_too_long}
+use Rattle.long_lines.specs.Texts.{is_too_long}
 use Rattle.restore_core.specs.Steps.{Behind}
 
 -- at most so many bytes, without a line feed
@@ -124,5 +124,5 @@ one_line s kept line b may = without_feed (line_text line) (plain_line s kept li
 not_long : (most : ℕ) (text : List ℕ) → length text ≤ most → nat_lt most (length text) ≡ false
 not_long most text short = grind (arith, nat_tests)
 
-pub short_line : (s : Standing) (kept : List Kept) (line : Line) → Behind s kept → MayStand s line → is_too_long (line_text line) ≡ false
+pub short_line : (s : Standing) (kept : List Kept) (line : Line) → Behind s kept → MayStand s line → is_too_long MAX_LINE (line_text line) ≡ false
 short_line s kept line b may = not_long MAX_LINE (line_text line) (plain_line s kept line b may).short

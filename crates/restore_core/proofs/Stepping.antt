@@ -4,16 +4,17 @@ use Rattle.std.specs.Prelude.{Option, Some, None, Ok, Err}
 use Rattle.backup_machine.specs.declared.objects.Kept.{Kept}
 use Rattle.backup_text.specs.declared.items.BackupItem.{BackupItem}
 use Rattle.backup_text.specs.declared.stages.Stage.{Stage}
+use Rattle.backup_text.specs.declared.limits.TheConstants.{MAX_LINE}
 use Rattle.backup_text.specs.Lines.{Standing, MayStand, after, at_start, item_of}
 use Rattle.backup_text.specs.Readings.{line_in, Takes as Reads}
 use Rattle.backup_text.proofs.LineWords.{line_takes}
 use Rattle.restore_core.specs.declared.reading.Reading.{Reading}
 use Rattle.restore_core.specs.declared.stops.RestoreStop.{RestoreStop}
 use Rattle.restore_core.specs.declared.stops.RestoreStop.TheVariants as stops
-use Rattle.restore_core.specs.declared.texts.TextEnd.TheVariants.{Whole, Long, Ended}
+use Rattle.long_lines.specs.declared.texts.TextEnd.TheVariants.{Whole, Long, Ended}
 use Rattle.restore_core.specs.Files.{Answer, Restores, BadLine, answer_from, answer_of, is_ended, kept_on}
 use Rattle.restore_core.specs.Steps.{Behind, IsFresh, IsBehind, Goes, GoesOn, Says, Takes, answer_behind, answer_here, ended_with, ends_here, kept_with}
-use Rattle.restore_core.specs.Texts.{lines_of, is_too_long, Yields}
+use Rattle.long_lines.specs.Texts.{lines_of, is_too_long, Yields}
 use Rattle.restore_core.proofs.Answering.{Took, answer_at_end, answer_behind_text, answer_long, answer_on, same_kept, took}
 use Rattle.restore_core.proofs.Objects.{behind_more, ended_more, lines_behind, none_behind, one_line_more}
 
@@ -26,7 +27,7 @@ module _ (s s' : Standing) (kept kept' : List Kept) (lines lines' : ℕ) (text :
   may = (line_takes s text t.line t.read).0
 
   -- a line was taken: the answer goes on
-  pub take_on : is_too_long text ≡ false → (texts : List (List ℕ)) (rest : List ℕ) → answer_from s kept lines (text ∷ texts) rest ≡ answer_from s' kept' lines' texts rest
+  pub take_on : is_too_long MAX_LINE text ≡ false → (texts : List (List ℕ)) (rest : List ℕ) → answer_from s kept lines (text ∷ texts) rest ≡ answer_from s' kept' lines' texts rest
   take_on short texts rest =
       answer_on s s' kept lines text item short t texts rest
       ∙ ap (λ (ks : List Kept). answer_from s' ks (lines + 1) texts rest) (sym kept_is)
@@ -49,21 +50,21 @@ module _ (s s' : Standing) (kept kept' : List Kept) (lines lines' : ℕ) (text :
       ∙ sym (ap (λ (u : Standing). is_ended u.stage) t.behind)
 
 -- a text that is too long
-pub long_here : (r : Reading) (all text held : List ℕ) (left : Option (List ℕ)) → Yields Long all text held left → answer_here r all ≡ BadLine (r.lines + 1)
+pub long_here : (r : Reading) (all text held : List ℕ) (left : Option (List ℕ)) → Yields MAX_LINE Long all text held left → answer_here r all ≡ BadLine (r.lines + 1)
 long_here r all text held left y =
     answer_long r.reader r.kept.items r.lines all text y.divided.0 y.one_line y.divided.1 y.divided.2 y.divided.3
 
 -- a whole line
-pub whole_here : (r : Reading) (all text held : List ℕ) (left : Option (List ℕ)) (y : Yields Whole all text held left)
+pub whole_here : (r : Reading) (all text held : List ℕ) (left : Option (List ℕ)) (y : Yields MAX_LINE Whole all text held left)
     → answer_here r all ≡ answer_behind r (text ∷ (lines_of (held ++ y.rest)).whole) (lines_of (held ++ y.rest)).rest
 whole_here r all text held left y =
     answer_behind_text r.reader r.kept.items r.lines all text (held ++ y.rest) y.one_line y.divided.0
 
 -- the end
-pub end_here : (r : Reading) (all text held : List ℕ) (left : Option (List ℕ)) → Yields Ended all text held left → answer_here r all ≡ ends_here r text
+pub end_here : (r : Reading) (all text held : List ℕ) (left : Option (List ℕ)) → Yields MAX_LINE Ended all text held left → answer_here r all ≡ ends_here r text
 end_here r all text held left y = answer_at_end r.reader r.kept.items r.lines all text y.one_line y.divided.0
 
-pub left_empty : (all text held : List ℕ) (left : Option (List ℕ)) → Yields Ended all text held left → left ≡ Some []
+pub left_empty : (all text held : List ℕ) (left : Option (List ℕ)) → Yields MAX_LINE Ended all text held left → left ≡ Some []
 left_empty all text held left y = y.told ∙ ap (λ (xs : List ℕ). Some xs) y.divided.2
 
 -- ---- what the next line answers
@@ -78,7 +79,7 @@ stopped_goes old rest new left stops.OutOfMemory good = tt
 
 -- the input has ended, and the file has not
 pub unended_goes : (old : Reading) (rest : List ℕ) (new : Reading) (left : Option (List ℕ)) (text held : List ℕ) (stop : RestoreStop)
-    → Yields Ended (old.texts ++ rest) text held left → Says old.kept.items (ends_here old text) (Err stop) → Goes old rest new left (Err stop)
+    → Yields MAX_LINE Ended (old.texts ++ rest) text held left → Says old.kept.items (ends_here old text) (Err stop) → Goes old rest new left (Err stop)
 unended_goes old rest new left text held (stops.BadBackup line) y says = end_here old (old.texts ++ rest) text held left y ∙ says
 unended_goes old rest new left text held stops.ReadFault y says = tt
 unended_goes old rest new left text held stops.WriteFault y says = tt
@@ -86,14 +87,14 @@ unended_goes old rest new left text held stops.OutOfMemory y says = tt
 
 -- both have
 pub ended_goes : (old : Reading) (rest : List ℕ) (new : Reading) (left : Option (List ℕ)) (text held : List ℕ)
-    → Yields Ended (old.texts ++ rest) text held left → ends_here old text ≡ Restores old.kept.items → new.kept.items ≡ old.kept.items
+    → Yields MAX_LINE Ended (old.texts ++ rest) text held left → ends_here old text ≡ Restores old.kept.items → new.kept.items ≡ old.kept.items
     → Goes old rest new left (Ok false)
 ended_goes old rest new left text held y says same =
     (end_here old (old.texts ++ rest) text held left y ∙ says ∙ ap Restores (sym same), left_empty (old.texts ++ rest) text held left y)
 
 -- the line was not taken
 pub refused_goes : (old : Reading) (rest : List ℕ) (new : Reading) (left : Option (List ℕ)) (text held : List ℕ) (stop : RestoreStop)
-    → Yields Whole (old.texts ++ rest) text held left → Takes (λ texts more. answer_behind old (text ∷ texts) more) new (Err stop)
+    → Yields MAX_LINE Whole (old.texts ++ rest) text held left → Takes (λ texts more. answer_behind old (text ∷ texts) more) new (Err stop)
     → Goes old rest new left (Err stop)
 refused_goes old rest new left text held (stops.BadBackup line) y takes =
     whole_here old (old.texts ++ rest) text held left y ∙ takes (lines_of (held ++ y.rest)).whole (lines_of (held ++ y.rest)).rest
@@ -103,7 +104,7 @@ refused_goes old rest new left text held stops.OutOfMemory y takes = tt
 
 -- the line was taken
 pub taken_goes : (old : Reading) (rest : List ℕ) (new : Reading) (left : Option (List ℕ)) (text held : List ℕ)
-    → Yields Whole (old.texts ++ rest) text held left → ((texts : List (List ℕ)) (more : List ℕ) → answer_behind old (text ∷ texts) more ≡ answer_behind new texts more)
+    → Yields MAX_LINE Whole (old.texts ++ rest) text held left → ((texts : List (List ℕ)) (more : List ℕ) → answer_behind old (text ∷ texts) more ≡ answer_behind new texts more)
     → new.texts ≡ held → Goes old rest new left (Ok true)
 taken_goes old rest new left text held y takes same = record {
   rest = y.rest;

@@ -3,12 +3,13 @@ use Rattle.std.specs.Prelude.{◌≡◌, ℕ, ◌+◌, ◌<◌, ◌^◌, ◌≤�
 use Rattle.std.specs.List.{flat_map}
 use Rattle.tcs_terms.specs.Objects.{IsName, IsValue}
 use Rattle.backup_machine.specs.declared.objects.Kept.{Kept}
+use Rattle.backup_text.specs.declared.limits.TheConstants.{MAX_LINE}
 use Rattle.backup_text.specs.declared.stages.Stage.{Stage}
 use Rattle.backup_text.specs.declared.stages.Stage.TheVariants.{Start, Begun, AtPlace, NoPlace, Ended}
 use Rattle.backup_text.specs.Lines.{Line, HeadLine, CallLine, PlaceLine, ObjectLine, EndLine, printed, Standing, MayStand, after, at_start}
 use Rattle.backup_text.specs.Readings.{line_in}
 use Rattle.restore_laws.specs.Schedules.{CanBeRestored}
-use Rattle.restore_core.specs.Texts.{lines_of, is_too_long}
+use Rattle.long_lines.specs.Texts.{lines_of, is_too_long}
 
 -- ---- files
 
@@ -72,7 +73,7 @@ with_line (Some line) number more = more line
 abbrev pub answer_from : Standing → List Kept → ℕ → List (List ℕ) → List ℕ → Answer
 answer_from s kept lines [] rest = at_end (is_ended s.stage) kept lines rest
 answer_from s kept lines (text ∷ texts) rest =
-    if is_too_long text then BadLine (lines + 1)
+    if is_too_long MAX_LINE text then BadLine (lines + 1)
     else with_line (line_in s text) (lines + 1) (λ line. answer_from (after s line) (kept_on kept line) (lines + 1) texts rest)
 
 -- the answer to all bytes

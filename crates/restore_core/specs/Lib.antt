@@ -1,4 +1,3 @@
-pub mod Texts
 pub mod Stops
 pub mod Files
 pub mod Printed

@@ -13,7 +13,7 @@ use Rattle.restore_core.specs.declared.reading.Reading.{Reading}
 use Rattle.restore_core.specs.declared.stops.RestoreStop.{RestoreStop}
 use Rattle.restore_core.specs.declared.stops.RestoreStop.TheVariants as stops
 use Rattle.restore_core.specs.Files.{Answer, Restores, BadLine, answer_from, at_end, is_ended, IsPut}
-use Rattle.restore_core.specs.Texts.{lines_of}
+use Rattle.long_lines.specs.Texts.{lines_of}
 
 -- what a line says is kept
 abbrev pub kept_with : List Kept → BackupItem → List Kept

@@ -7,7 +7,6 @@ mod restoring;
 mod stops;
 #[cfg(test)]
 mod tests;
-mod texts;
 
 pub use restoring::restore;
 pub use stops::RestoreStop;

@@ -5,9 +5,10 @@ ghost use Rattle.restore_core.specs.Files.{AreRestored, BadLine, Restores, answe
 ghost use Rattle.restore_core.specs.Steps.{IsFresh, IsBehind, Goes, Says, Takes, answer_behind, ends_here, ended_with, kept_with};
 
 use crate::stops::RestoreStop;
-use crate::texts::{TextEnd, Texts};
 use backup_machine::Kept;
+use backup_text::limits::MAX_LINE;
 use backup_text::{BackupItem, BackupLineFault, BackupReader};
+use long_lines::{TextEnd, Texts};
 use std::alloc::Global;
 use tcs_io::Source;
 use tcs_terms::OutOfMemory;
@@ -49,7 +50,7 @@ impl Reading {
         ensures reads { IsErrOf result RestoreStop.WriteFault → ⊥ }
         ensures count { S.faults input.old ≤ S.faults input.new }
     {
-        match self.texts.next_text(input, &mut self.text)? {
+        match self.texts.next_text(input, &mut self.text, MAX_LINE)? {
             TextEnd::Long => Err(RestoreStop::BadBackup(self.lines + 1)),
             TextEnd::Ended => {
                 self.end()?;

@@ -6,9 +6,9 @@ use Rattle.std.proofs.lemmas.List.Folds.{list_any-append}
 use Rattle.schedule_text.specs.declared.lines.Got.{Got}
 use Rattle.schedule_text.specs.declared.lines.Got.TheVariants as gots
 use Rattle.schedule_text.specs.Lines.{line_feed, has_feed, Fits, HandsOut}
-use Rattle.restore_core.specs.declared.texts.TextEnd.{TextEnd}
-use Rattle.restore_core.specs.declared.texts.TextEnd.TheVariants.{Whole, Long, Ended}
-use Rattle.restore_core.specs.Texts.{is_too_long, Yields, Appends, Gathers}
+use Rattle.long_lines.specs.declared.texts.TextEnd.{TextEnd}
+use Rattle.long_lines.specs.declared.texts.TextEnd.TheVariants.{Whole, Long, Ended}
+use Rattle.long_lines.specs.Texts.{is_too_long, Yields, Appends, Gathers}
 
 -- no line feed is in a piece
 piece_lacks : (got : Got) (piece : List ℕ) → Fits got piece → has_feed piece ≡ false
@@ -44,9 +44,9 @@ gathers_more all before after held held' left left' a g =
     }
 
 -- with it the text is too long
-pub yields_long : (all before after held held' : List ℕ) (left left' : Option (List ℕ)) → Appends gots.Long before after held held' left left'
-    → Gathers all before held left → has_feed before ≡ false → is_too_long after ≡ true → Yields Long all after held' left'
-yields_long all before after held held' left left' a g none long =
+pub yields_long : (most : ℕ) (all before after held held' : List ℕ) (left left' : Option (List ℕ)) → Appends gots.Long before after held held' left left'
+    → Gathers all before held left → has_feed before ≡ false → is_too_long most after ≡ true → Yields most Long all after held' left'
+yields_long most all before after held held' left left' a g none long =
     let more : Gathers all after held' left' = gathers_more all before after held held' left left' a g in
     record {
       rest = more.rest;
@@ -61,10 +61,10 @@ yields_long all before after held held' left left' a g none long =
     }
 
 -- a line feed ends the text
-pub yields_whole : (all before after held held' : List ℕ) (left left' : Option (List ℕ)) (end : TextEnd)
+pub yields_whole : (most : ℕ) (all before after held held' : List ℕ) (left left' : Option (List ℕ)) (end : TextEnd)
     → Appends gots.Whole before after held held' left left' → Gathers all before held left → has_feed before ≡ false
-    → end ≡ (if is_too_long after then Long else Whole) → Yields end all after held' left'
-yields_whole all before after held held' left left' end a g none is = subst (λ e. Yields e all after held' left') (sym is) (go (is_too_long after) refl)
+    → end ≡ (if is_too_long most after then Long else Whole) → Yields most end all after held' left'
+yields_whole most all before after held held' left left' end a g none is = subst (λ e. Yields most e all after held' left') (sym is) (go (is_too_long most after) refl)
   where
     h : HandsOut gots.Whole (held ++ g.rest) a.piece held' left'
     h = a.hands g.rest g.told
@@ -73,7 +73,7 @@ yields_whole all before after held held' left left' end a g none is = subst (λ 
     whole = g.whole ∙ ap (λ (xs : List ℕ). before ++ xs) h.divided ∙ sym (append_assoc before a.piece (line_feed ∷ (held' ++ h.rest)))
         ∙ ap (λ (xs : List ℕ). xs ++ line_feed ∷ (held' ++ h.rest)) (sym a.joined)
 
-    go : (b : Bool) → is_too_long after ≡ b → Yields (if b then Long else Whole) all after held' left'
+    go : (b : Bool) → is_too_long most after ≡ b → Yields most (if b then Long else Whole) all after held' left'
     go true e = record {
       rest = h.rest;
       told = h.told;
@@ -88,9 +88,9 @@ yields_whole all before after held held' left left' end a g none is = subst (λ 
     }
 
 -- the input ends behind the text
-yields_cut : (all before after held held' : List ℕ) (left left' : Option (List ℕ)) → Appends gots.Cut before after held held' left left'
-    → Gathers all before held left → has_feed before ≡ false → Yields Ended all after held' left'
-yields_cut all before after held held' left left' a g none =
+yields_cut : (most : ℕ) (all before after held held' : List ℕ) (left left' : Option (List ℕ)) → Appends gots.Cut before after held held' left left'
+    → Gathers all before held left → has_feed before ≡ false → Yields most Ended all after held' left'
+yields_cut most all before after held held' left left' a g none =
     let h : HandsOut gots.Cut (held ++ g.rest) a.piece held' left' = a.hands g.rest g.told in
     record {
       rest = h.rest;
@@ -99,9 +99,9 @@ yields_cut all before after held held' left left' a g none =
       divided = (g.whole ∙ ap (λ (xs : List ℕ). before ++ xs) h.divided.0 ∙ sym a.joined, h.divided.1, h.divided.2);
     }
 
-yields_nothing : (all before after held held' : List ℕ) (left left' : Option (List ℕ)) → Appends gots.Nothing before after held held' left left'
-    → Gathers all before held left → has_feed before ≡ false → Yields Ended all after held' left'
-yields_nothing all before after held held' left left' a g none =
+yields_nothing : (most : ℕ) (all before after held held' : List ℕ) (left left' : Option (List ℕ)) → Appends gots.Nothing before after held held' left left'
+    → Gathers all before held left → has_feed before ≡ false → Yields most Ended all after held' left'
+yields_nothing most all before after held held' left left' a g none =
     let h : HandsOut gots.Nothing (held ++ g.rest) a.piece held' left' = a.hands g.rest g.told in
     record {
       rest = h.rest;
@@ -110,9 +110,9 @@ yields_nothing all before after held held' left left' a g none =
       divided = (g.whole ∙ ap (λ (xs : List ℕ). before ++ xs) (h.divided.0 ∙ sym a.fits) ∙ sym a.joined, h.divided.1, h.divided.2);
     }
 
-pub yields_end : (all before after held held' : List ℕ) (left left' : Option (List ℕ)) (got : Got) → (got ≡ gots.Cut) ⊎ (got ≡ gots.Nothing)
-    → Appends got before after held held' left left' → Gathers all before held left → has_feed before ≡ false → Yields Ended all after held' left'
-yields_end all before after held held' left left' got which a g none = elim which [
-  | inl cut ↦ yields_cut all before after held held' left left' (rw cut at a) g none
-  | inr nothing ↦ yields_nothing all before after held held' left left' (rw nothing at a) g none
+pub yields_end : (most : ℕ) (all before after held held' : List ℕ) (left left' : Option (List ℕ)) (got : Got) → (got ≡ gots.Cut) ⊎ (got ≡ gots.Nothing)
+    → Appends got before after held held' left left' → Gathers all before held left → has_feed before ≡ false → Yields most Ended all after held' left'
+yields_end most all before after held held' left left' got which a g none = elim which [
+  | inl cut ↦ yields_cut most all before after held held' left left' (rw cut at a) g none
+  | inr nothing ↦ yields_nothing most all before after held held' left left' (rw nothing at a) g none
 ]

@@ -1,10 +1,9 @@
--- Lines of bytes, of any length up to that of a line of a backup file.
+-- Lines of bytes, of any length up to a limit.
 use Rattle.std.specs.Prelude.{◌≡◌, ℕ, ◌<◌, Bool, false, true, ◌==◌, nat_lt, if◌then◌else◌, List, [], ◌∷◌, ◌++◌, length, Option, Some}
 use Rattle.schedule_text.specs.declared.lines.Got.{Got}
 use Rattle.schedule_text.specs.Lines.{line_feed, has_feed, Fits, HandsOut}
-use Rattle.backup_text.specs.declared.limits.TheConstants.{MAX_LINE}
-use Rattle.restore_core.specs.declared.texts.TextEnd.{TextEnd}
-use Rattle.restore_core.specs.declared.texts.TextEnd.TheVariants.{Whole, Long, Ended}
+use Rattle.long_lines.specs.declared.texts.TextEnd.{TextEnd}
+use Rattle.long_lines.specs.declared.texts.TextEnd.TheVariants.{Whole, Long, Ended}
 
 -- the lines that line feeds end, without these, and what stands behind the last line feed
 pub record Lines : Type 0 where
@@ -24,22 +23,22 @@ lines_of (byte ∷ bytes) =
     else with_byte byte (lines_of bytes).whole (lines_of bytes).rest
 
 -- whether a line has too many bytes
-abbrev pub is_too_long : List ℕ → Bool
-is_too_long text = nat_lt MAX_LINE (length text)
+abbrev pub is_too_long : ℕ → List ℕ → Bool
+is_too_long most text = nat_lt most (length text)
 
 -- What each answer says of all the bytes: those of the text, those held, and those left. Behind a text that is too long
 -- nothing is told of the others.
-abbrev pub Divides : TextEnd → (all text held left : List ℕ) → Type 0
-Divides Whole all text held left = (all ≡ text ++ line_feed ∷ (held ++ left)) × (is_too_long text ≡ false)
-Divides Long all text held left = (more : List ℕ) × (all ≡ text ++ more) × (0 < length all) × (is_too_long text ≡ true)
-Divides Ended all text held left = (all ≡ text) × (held ≡ []) × (left ≡ [])
+abbrev pub Divides : (most : ℕ) → TextEnd → (all text held left : List ℕ) → Type 0
+Divides most Whole all text held left = (all ≡ text ++ line_feed ∷ (held ++ left)) × (is_too_long most text ≡ false)
+Divides most Long all text held left = (more : List ℕ) × (all ≡ text ++ more) × (0 < length all) × (is_too_long most text ≡ true)
+Divides most Ended all text held left = (all ≡ text) × (held ≡ []) × (left ≡ [])
 
 -- the source tells what it has left, and with it the bytes are divided so; no line feed is in the text
-pub record Yields (end : TextEnd) (all text held : List ℕ) (left : Option (List ℕ)) : Type 0 where
+pub record Yields (most : ℕ) (end : TextEnd) (all text held : List ℕ) (left : Option (List ℕ)) : Type 0 where
   pub rest : List ℕ
   pub told : left ≡ Some rest
   pub one_line : has_feed text ≡ false
-  pub divided : Divides end all text held rest
+  pub divided : Divides most end all text held rest
 
 -- ---- pieces
 

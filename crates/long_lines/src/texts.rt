@@ -1,10 +1,8 @@
-//! Lines of a backup file, which may be longer than those of a schedule: each is put together of the pieces that the reader
-//! of short lines hands out.
+//! Lines of any length up to a limit that the caller names, put together of the pieces that a reader of short lines hands out.
 ghost use Rattle.std.specs.Prelude.{◌≡◌, ℕ, ◌≤◌, false, ◌++◌, List, [], Some, IfOk, IsErrOf, if◌then◌else◌};
 ghost use Rattle.tcs_io.specs.Faults.{Rose};
-ghost use Rattle.restore_core.specs.Texts.{Appends, Yields, is_too_long};
+ghost use Rattle.long_lines.specs.Texts.{Appends, Yields, is_too_long};
 
-use backup_text::limits::MAX_LINE;
 use schedule_text::{Got, Lines, LinesStop};
 use std::alloc::Global;
 use std::marker::Model;
@@ -13,27 +11,27 @@ use tcs_terms::OutOfMemory;
 
 /// How a text ended.
 #[derive(Clone, Copy, Debug, PartialEq, Eq)]
-pub(crate) enum TextEnd {
+pub enum TextEnd {
     /// A line feed ends it.
     Whole,
-    /// It has more bytes than a line may have.
+    /// It has more bytes than a line may have. It may be a front of the line, and lines behind it are not to be read.
     Long,
     /// The input ended. These are the bytes behind the last line feed.
     Ended,
 }
 
 /// Whether a line has too many bytes.
-fn is_too_long(text: &[u8]) -> bool
-    ensures { result ≡ is_too_long text.now }
+fn is_too_long(most: usize, text: &[u8]) -> bool
+    ensures { result ≡ is_too_long most text.now }
 {
-    text.len() > MAX_LINE
+    text.len() > most
 }
 
 /// How a text ended that a line feed ends.
-fn end_of_whole(text: &[u8]) -> TextEnd
-    ensures { result ≡ (if is_too_long text.now then TextEnd.Long else TextEnd.Whole) }
+fn end_of_whole(most: usize, text: &[u8]) -> TextEnd
+    ensures { result ≡ (if is_too_long most text.now then TextEnd.Long else TextEnd.Whole) }
 {
-    if is_too_long(text) {
+    if is_too_long(most, text) {
         TextEnd::Long
     } else {
         TextEnd::Whole
@@ -42,7 +40,7 @@ fn end_of_whole(text: &[u8]) -> TextEnd
 
 /// Reads lines, of which each is put together of pieces. Seen as the bytes that it has read and not yet handed out.
 #[derive(Debug, Drop)]
-pub(crate) struct Texts {
+pub struct Texts {
     lines: Lines,
     piece: Vec<u8>,
 }
@@ -57,7 +55,7 @@ impl Model for Texts {
 
 impl Texts {
     /// Holds nothing yet.
-    pub(crate) fn begin(alloc: Global) -> Result<Texts, OutOfMemory>
+    pub fn begin(alloc: Global) -> Result<Texts, OutOfMemory>
         ensures { IfOk result (λ texts. texts ≡ []) }
     {
         Ok(Texts {
@@ -81,16 +79,18 @@ impl Texts {
         Ok(got)
     }
 
-    /// Puts the next line in place of what `text` holds. It keeps no more than the line.
+    /// Puts the next line, of at most so many bytes without its line feed, in place of what `text` holds.
     ///
-    /// `ReadFault` comes only where the source counted a fault.
-    pub(crate) fn next_text<S: Source>(
+    /// # Errors
+    /// `ReadFault` comes only where the source counted a fault. After an error the line is lost.
+    pub fn next_text<S: Source>(
         &mut self,
         source: &mut S,
         text: &mut Vec<u8>,
+        most: usize,
     ) -> Result<TextEnd, LinesStop>
         ensures bytes { (rest : List ℕ) → S.left source.old ≡ Some rest
-            → IfOk result (λ end. Yields end (self.old ++ rest) text.new.items self.new (S.left source.new)) }
+            → IfOk result (λ end. Yields most end (self.old ++ rest) text.new.items self.new (S.left source.new)) }
         ensures fault { IsErrOf result LinesStop.ReadFault → Rose (S.faults source.old) (S.faults source.new) }
         ensures count { S.faults source.old ≤ S.faults source.new }
     {
@@ -98,9 +98,9 @@ impl Texts {
         'pieces: loop {
             match self.next_piece(source, text)? {
                 Got::Cut | Got::Nothing => return Ok(TextEnd::Ended),
-                Got::Whole => return Ok(end_of_whole(text)),
+                Got::Whole => return Ok(end_of_whole(most, text)),
                 Got::Long => {
-                    if is_too_long(text) {
+                    if is_too_long(most, text) {
                         return Ok(TextEnd::Long);
                     }
                 }

@@ -3,8 +3,7 @@ use Rattle.std.proofs.Common.{◌≡◌, ℕ, ◌≤◌, true, false, ◌==◌, 
 use Rattle.std.specs.Prelude.{nat_lt}
 use Rattle.std.proofs.lemmas.Bool.{cond-false, or_parts, ltb-true, ltb-false, lt-ltb}
 use Rattle.schedule_text.specs.Lines.{line_feed, has_feed}
-use Rattle.backup_text.specs.declared.limits.TheConstants.{MAX_LINE}
-use Rattle.restore_core.specs.Texts.{Lines, with_byte, lines_of, is_too_long}
+use Rattle.long_lines.specs.Texts.{Lines, with_byte, lines_of, is_too_long}
 
 abbrev pub both : List (List ℕ) → List ℕ → Lines
 both whole rest = record { whole = whole; rest = rest }
@@ -46,15 +45,9 @@ no_line text none =
     ∙ ap (λ (t : List ℕ). both [] t) (append-nil text)
 
 -- what is too long stays so with more bytes
-longer : (most : ℕ) (text more : List ℕ) → nat_lt most (length text) ≡ true → nat_lt most (length (text ++ more)) ≡ true
-longer most text more long = lt-ltb most (length (text ++ more)) (omega (arith, ltb-true most (length text) long, length-append text more))
-
-pub still_long : (text more : List ℕ) → is_too_long text ≡ true → is_too_long (text ++ more) ≡ true
-still_long text more long = longer MAX_LINE text more long
+pub still_long : (most : ℕ) (text more : List ℕ) → is_too_long most text ≡ true → is_too_long most (text ++ more) ≡ true
+still_long most text more long = lt-ltb most (length (text ++ more)) (omega (arith, ltb-true most (length text) long, length-append text more))
 
 -- what is not too long has room
-room : (most : ℕ) (text : List ℕ) → nat_lt most (length text) ≡ false → length text ≤ most
-room most text short = ltb-false most (length text) short
-
-pub has_room : (text : List ℕ) → is_too_long text ≡ false → length text ≤ MAX_LINE
-has_room text short = room MAX_LINE text short
+pub has_room : (most : ℕ) (text : List ℕ) → is_too_long most text ≡ false → length text ≤ most
+has_room most text short = ltb-false most (length text) short
