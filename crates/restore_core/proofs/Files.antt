@@ -48,7 +48,7 @@ file_answers bytes kept f =
 -- ---- bytes that are answered by objects are the text of a file that has them
 
 -- the lines that line feeds end, and what stands behind them, are the bytes
-whole_again : (bytes : List ℕ) → flat_map with_feed (lines_of bytes).whole ++ (lines_of bytes).rest ≡ bytes
+pub whole_again : (bytes : List ℕ) → flat_map with_feed (lines_of bytes).whole ++ (lines_of bytes).rest ≡ bytes
 whole_again [] = refl
 whole_again (b ∷ bs) =
     cond_both (b == line_feed) (both ([] ∷ (lines_of bs).whole) (lines_of bs).rest) (with_byte b (lines_of bs).whole (lines_of bs).rest)

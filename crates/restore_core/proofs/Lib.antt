@@ -5,3 +5,4 @@ pub mod Ending
 pub mod Schedules
 pub mod PlainLines
 pub mod Files
+pub mod BadLines

@@ -1,5 +1,5 @@
 -- What is said of bytes that are to be a backup file: the objects that it has, or the number of the first bad line.
-use Rattle.std.specs.Prelude.{◌≡◌, ℕ, ◌+◌, ◌<◌, ◌^◌, ◌≤◌, Bool, true, false, if◌then◌else◌, List, [], ◌∷◌, ◌++◌, filter_map, All, Option, Some, None}
+use Rattle.std.specs.Prelude.{◌≡◌, ℕ, ◌+◌, ◌<◌, ◌^◌, ◌≤◌, Bool, true, false, if◌then◌else◌, List, [], ◌∷◌, ◌++◌, length, filter_map, All, Option, Some, None}
 use Rattle.std.specs.List.{flat_map}
 use Rattle.tcs_terms.specs.Objects.{IsName, IsValue}
 use Rattle.backup_machine.specs.declared.objects.Kept.{Kept}
@@ -38,6 +38,18 @@ pub record IsFile (bytes : List ℕ) (kept : List Kept) : Type 0 where
   pub ended : last.stage ≡ Ended
   pub text : bytes ≡ flat_map printed lines
   pub objects : kept ≡ objects_on lines
+
+-- The line of this number, from 1, is the first bad one: before it stand lines that may stand there, and then come neither
+-- a line that may stand behind them nor, where the last of them is the end, the end of the bytes.
+pub record IsFirstBad (bytes : List ℕ) (number : ℕ) : Type 0 where
+  pub lines : List Line
+  pub last : Standing
+  pub stand : Stand at_start lines last
+  pub numbered : number ≡ length lines + 1
+  pub rest : List ℕ
+  pub front : bytes ≡ flat_map printed lines ++ rest
+  pub no_line : (line : Line) (more : List ℕ) → MayStand last line → rest ≡ printed line ++ more → ⊥
+  pub no_end : last.stage ≡ Ended → rest ≡ [] → ⊥
 
 -- ---- the answer to bytes
 
