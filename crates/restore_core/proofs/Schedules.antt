@@ -1,26 +1,23 @@
 -- The schedule that puts objects back: it is one, and its text is what is printed.
-use Rattle.std.proofs.Common.{◌≡◌, ℕ, suc, ◌+◌, ◌*◌, ◌<◌, ◌≤◌, ◌||◌, ◌&&◌, Bool, true, false, List, [], ◌∷◌, ◌++◌, length, get_or, drop, map, All, refl, sym, ap, ◌∙◌, append_assoc, append-nil, length-append, arith, leb-true, le-leb, lt-ltb}
+use Rattle.std.proofs.Common.{◌≡◌, ℕ, suc, ◌+◌, ◌*◌, ◌<◌, ◌≤◌, ◌||◌, ◌&&◌, Bool, true, false, List, [], ◌∷◌, length, All, refl, ap, arith, leb-true, le-leb, lt-ltb}
 use Rattle.std.specs.Prelude.{nat_lt, codes}
-use Rattle.std.specs.List.{flat_map, AllByRecursion}
-use Rattle.std.proofs.lemmas.Grind.{flat_map-append}
-use Rattle.std.proofs.lemmas.List.{map-append}
+use Rattle.std.specs.List.{AllByRecursion}
+use Rattle.std.proofs.lemmas.Fmt.{decimal_digit}
 use Rattle.std.proofs.lemmas.List.Elements.{All-nil, All-cons}
-use Rattle.std.proofs.Math.Seq.{drop-cons, drop-length}
-use Rattle.tcs_terms.specs.declared.inputs.Event.{Event}
 use Rattle.tcs_terms.specs.declared.limits.TheConstants.{MAX_RANGES, MAX_READS, MAX_WRITES}
 use Rattle.tcs_terms.specs.Payloads.{IsPayload, IsReadPart, IsRangePart, IsWritePart}
 use Rattle.tcs_terms.specs.Runs.{MayStand}
 use Rattle.tcs_terms.proofs.BoolLaws.{both}
 use Rattle.schedule_text.specs.Bytes.{IsText}
-use Rattle.schedule_text.specs.Text.{event_line, schedule_text, setup_lines, with_feed}
+use Rattle.schedule_text.specs.Text.{schedule_text, setup_lines}
 use Rattle.schedule_text.specs.Whole.{IsSchedule}
 use Rattle.protocol.specs.Worked.Words.{deliver, reads, writes}
 use Rattle.protocol_laws.proofs.NamesOnce.{same_name-self}
 use Rattle.backup_machine.specs.declared.objects.Kept.{Kept}
-use Rattle.restore_laws.specs.Schedules.{CanBeRestored, IsKept, events_from, events_of, payload_of, restored_events, restored_setup}
+use Rattle.restore_laws.specs.Schedules.{CanBeRestored, IsKept, events_from, payload_of, restored_events, restored_setup}
 use Rattle.restore_laws.proofs.Fitting.{schedule_fits}
 use Rattle.restore_core.specs.Files.{AreRestored, IsPut}
-use Rattle.restore_core.specs.Printed.{events_text, header_text}
+use Rattle.restore_core.specs.Printed.{header_text}
 
 -- ---- it is a schedule
 
@@ -83,39 +80,9 @@ is_schedule kept are =
 pub is_text : (kept : List Kept) → AreRestored kept → IsText (schedule_text restored_setup (restored_events kept)) restored_setup (restored_events kept)
 is_text kept are = record { schedule = is_schedule kept are; text = refl }
 
--- ---- it is printed
-
-events_join : (es fs : List Event) → events_text (es ++ fs) ≡ events_text es ++ events_text fs
-events_join es fs = ap (flat_map with_feed) (map-append event_line es fs) ∙ flat_map-append with_feed (map event_line es) (map event_line fs)
-
--- the lines of the next object are printed
-pub one_object_more : (out out' whole : List ℕ) (kept : List Kept) (i before : ℕ) (k : Kept) → i < length kept
-    → out ++ events_text (events_from before (drop i kept)) ≡ whole → out' ≡ out ++ events_text (events_of before (get_or kept i k))
-    → out' ++ events_text (events_from (before + 1) (drop (i + 1) kept)) ≡ whole
-one_object_more out out' whole kept i before k inside so_far now =
-    let here = get_or kept i k in
-    let rest = events_from (before + 1) (drop (i + 1) kept) in
-    let split : events_from before (drop i kept) ≡ events_of before here ++ rest = ap (events_from before) (drop-cons kept i k inside) in
-    ap (λ (t : List ℕ). t ++ events_text rest) now ∙ append_assoc out (events_text (events_of before here)) (events_text rest)
-    ∙ ap (λ (t : List ℕ). out ++ t) (sym (ap events_text split ∙ events_join (events_of before here) rest)) ∙ so_far
-
--- no object is left
-pub all_objects : (out whole : List ℕ) (kept : List Kept) (before : ℕ) → out ++ events_text (events_from before (drop (length kept) kept)) ≡ whole → out ≡ whole
-all_objects out whole kept before so_far =
-    sym (append-nil out) ∙ ap (λ (ks : List Kept). out ++ events_text (events_from before ks)) (sym (drop-length kept)) ∙ so_far
-
--- the header, the events, and the last line
-pub text_parts : (es : List Event) → header_text ++ (events_text es ++ codes "end\n") ≡ schedule_text restored_setup es
-text_parts es =
-    sym (flat_map-append with_feed (setup_lines restored_setup) (map event_line es ++ codes "end" ∷ [])
-    ∙ ap (λ (t : List ℕ). header_text ++ t) (flat_map-append with_feed (map event_line es) (codes "end" ∷ [])))
-
-pub whole_text : (before out : List ℕ) (es : List Event) → out ≡ ((before ++ header_text) ++ events_text es) ++ codes "end\n" → out ≡ before ++ schedule_text restored_setup es
-whole_text before out es is =
-    is ∙ append_assoc (before ++ header_text) (events_text es) (codes "end\n") ∙ append_assoc before header_text (events_text es ++ codes "end\n")
-    ∙ ap (λ (t : List ℕ). before ++ t) (text_parts es)
+-- ---- its header
 
 -- the header is these lines
 pub header_is : header_text ≡ codes "tcs 2\ncertifier serial\nshards 1\nnode 1 1\nconfig 1 1 1\nevents\n"
 unfolding setup_lines
-header_is = refl
+header_is = rw (decimal_digit 2 (omega arith), decimal_digit 1 (omega arith)) refl
