@@ -67,6 +67,13 @@ end_here r all text held left y = answer_at_end r.reader r.kept.items r.lines al
 pub left_empty : (all text held : List ℕ) (left : Option (List ℕ)) → Yields MAX_LINE Ended all text held left → left ≡ Some []
 left_empty all text held left y = y.told ∙ ap (λ (xs : List ℕ). Some xs) y.divided.2
 
+-- the answer depends on what was taken alone
+same_behind : (old line : Reading) (texts : List (List ℕ)) (rest : List ℕ) → line.reader ≡ old.reader → line.kept.items ≡ old.kept.items → line.lines ≡ old.lines
+    → answer_behind old texts rest ≡ answer_behind line texts rest
+same_behind old line texts rest reader kept lines =
+    sym (ap (λ (s : Standing). answer_from s line.kept.items line.lines texts rest) reader ∙ ap (λ (ks : List Kept). answer_from old.reader ks line.lines texts rest) kept
+    ∙ ap (λ n. answer_from old.reader old.kept.items n texts rest) lines)
+
 -- ---- what the next line answers
 
 -- the reader of lines stopped
@@ -92,24 +99,27 @@ pub ended_goes : (old : Reading) (rest : List ℕ) (new : Reading) (left : Optio
 ended_goes old rest new left text held y says same =
     (end_here old (old.texts ++ rest) text held left y ∙ says ∙ ap Restores (sym same), left_empty (old.texts ++ rest) text held left y)
 
--- the line was not taken
-pub refused_goes : (old : Reading) (rest : List ℕ) (new : Reading) (left : Option (List ℕ)) (text held : List ℕ) (stop : RestoreStop)
-    → Yields MAX_LINE Whole (old.texts ++ rest) text held left → Takes (λ texts more. answer_behind old (text ∷ texts) more) new (Err stop)
-    → Goes old rest new left (Err stop)
-refused_goes old rest new left text held (stops.BadBackup line) y takes =
-    whole_here old (old.texts ++ rest) text held left y ∙ takes (lines_of (held ++ y.rest)).whole (lines_of (held ++ y.rest)).rest
-refused_goes old rest new left text held stops.ReadFault y takes = tt
-refused_goes old rest new left text held stops.WriteFault y takes = tt
-refused_goes old rest new left text held stops.OutOfMemory y takes = tt
+-- the line was not taken; `line` is the reading with the line in work
+pub refused_goes : (old line : Reading) (rest : List ℕ) (new : Reading) (left : Option (List ℕ)) (held : List ℕ) (stop : RestoreStop)
+    → Yields MAX_LINE Whole (old.texts ++ rest) line.text.items held left → line.reader ≡ old.reader → line.kept.items ≡ old.kept.items → line.lines ≡ old.lines
+    → Takes line new (Err stop) → Goes old rest new left (Err stop)
+refused_goes old line rest new left held (stops.BadBackup number) y reader kept lines takes =
+    whole_here old (old.texts ++ rest) line.text.items held left y ∙ same_behind old line (line.text.items ∷ (lines_of (held ++ y.rest)).whole) (lines_of (held ++ y.rest)).rest reader kept lines
+    ∙ takes (lines_of (held ++ y.rest)).whole (lines_of (held ++ y.rest)).rest
+refused_goes old line rest new left held stops.ReadFault y reader kept lines takes = tt
+refused_goes old line rest new left held stops.WriteFault y reader kept lines takes = tt
+refused_goes old line rest new left held stops.OutOfMemory y reader kept lines takes = tt
 
 -- the line was taken
-pub taken_goes : (old : Reading) (rest : List ℕ) (new : Reading) (left : Option (List ℕ)) (text held : List ℕ)
-    → Yields MAX_LINE Whole (old.texts ++ rest) text held left → ((texts : List (List ℕ)) (more : List ℕ) → answer_behind old (text ∷ texts) more ≡ answer_behind new texts more)
-    → new.texts ≡ held → Goes old rest new left (Ok true)
-taken_goes old rest new left text held y takes same = record {
+pub taken_goes : (old line : Reading) (rest : List ℕ) (new : Reading) (left : Option (List ℕ)) (held : List ℕ)
+    → Yields MAX_LINE Whole (old.texts ++ rest) line.text.items held left → line.reader ≡ old.reader → line.kept.items ≡ old.kept.items → line.lines ≡ old.lines
+    → Takes line new (Ok tt) → new.texts ≡ held → Goes old rest new left (Ok true)
+taken_goes old line rest new left held y reader kept lines takes same = record {
   rest = y.rest;
   told = y.told;
-  same = whole_here old (old.texts ++ rest) text held left y ∙ takes (lines_of (held ++ y.rest)).whole (lines_of (held ++ y.rest)).rest
+  same = whole_here old (old.texts ++ rest) line.text.items held left y
+      ∙ same_behind old line (line.text.items ∷ (lines_of (held ++ y.rest)).whole) (lines_of (held ++ y.rest)).rest reader kept lines
+      ∙ takes y.divided.1 (lines_of (held ++ y.rest)).whole (lines_of (held ++ y.rest)).rest
       ∙ ap (λ (xs : List ℕ). answer_here new (xs ++ y.rest)) (sym same);
 }
 

@@ -5,7 +5,7 @@ use Rattle.backup_machine.specs.declared.objects.Kept.{Kept}
 use Rattle.backup_machine.specs.declared.objects.TheConstants.{MAX_OBJECTS}
 use Rattle.backup_text.specs.declared.items.BackupItem.{BackupItem}
 use Rattle.backup_text.specs.declared.items.BackupItem.TheVariants as items
-use Rattle.backup_text.specs.declared.limits.TheConstants.{MAX_CALLS}
+use Rattle.backup_text.specs.declared.limits.TheConstants.{MAX_CALLS, MAX_LINE}
 use Rattle.backup_text.specs.declared.stages.Stage.{Stage}
 use Rattle.backup_text.specs.declared.stages.Stage.TheVariants.{Start, Begun, AtPlace, NoPlace, Ended}
 use Rattle.backup_text.specs.Lines.{Standing, at_start}
@@ -13,7 +13,7 @@ use Rattle.restore_core.specs.declared.reading.Reading.{Reading}
 use Rattle.restore_core.specs.declared.stops.RestoreStop.{RestoreStop}
 use Rattle.restore_core.specs.declared.stops.RestoreStop.TheVariants as stops
 use Rattle.restore_core.specs.Files.{Answer, Restores, BadLine, answer_from, at_end, is_ended, IsPut}
-use Rattle.long_lines.specs.Texts.{lines_of}
+use Rattle.long_lines.specs.Texts.{lines_of, is_too_long}
 
 -- what a line says is kept
 abbrev pub kept_with : List Kept → BackupItem → List Kept
@@ -96,12 +96,13 @@ Goes old rest new left (Err stops.WriteFault) = Unit {0}
 Goes old rest new left (Err stops.OutOfMemory) = Unit {0}
 
 -- the line in work was taken, or it is bad, whatever stands behind it: the answer so far, by that
-abbrev pub Takes : (List (List ℕ) → List ℕ → Answer) → Reading → Result Unit RestoreStop → Type 0
-Takes answer new (Ok done) = (texts : List (List ℕ)) (rest : List ℕ) → answer texts rest ≡ answer_behind new texts rest
-Takes answer new (Err (stops.BadBackup line)) = (texts : List (List ℕ)) (rest : List ℕ) → answer texts rest ≡ BadLine line
-Takes answer new (Err stops.ReadFault) = Unit {0}
-Takes answer new (Err stops.WriteFault) = Unit {0}
-Takes answer new (Err stops.OutOfMemory) = Unit {0}
+abbrev pub Takes : Reading → Reading → Result Unit RestoreStop → Type 0
+Takes old new (Ok done) =
+    is_too_long MAX_LINE old.text.items ≡ false → (texts : List (List ℕ)) (rest : List ℕ) → answer_behind old (old.text.items ∷ texts) rest ≡ answer_behind new texts rest
+Takes old new (Err (stops.BadBackup line)) = (texts : List (List ℕ)) (rest : List ℕ) → answer_behind old (old.text.items ∷ texts) rest ≡ BadLine line
+Takes old new (Err stops.ReadFault) = Unit {0}
+Takes old new (Err stops.WriteFault) = Unit {0}
+Takes old new (Err stops.OutOfMemory) = Unit {0}
 
 -- the result tells this answer, which has these objects, unless it is another stop
 abbrev pub Says : List Kept → Answer → Result Unit RestoreStop → Type 0

@@ -2,7 +2,7 @@
 ghost use Rattle.std.specs.Prelude.{◌≡◌, ◌≤◌, ◌<◌, ◌+◌, ℕ, true, false, List, [], ◌∷◌, Some, IfOk, OnOk, IsErrOf};
 ghost use Rattle.tcs_io.specs.Faults.{Rose};
 ghost use Rattle.restore_core.specs.Files.{AreRestored, BadLine, Restores, answer_of};
-ghost use Rattle.restore_core.specs.Steps.{IsFresh, IsBehind, Goes, Says, Takes, answer_behind, ends_here, ended_with, kept_with};
+ghost use Rattle.restore_core.specs.Steps.{IsFresh, IsBehind, Goes, Says, Takes, ends_here, ended_with, kept_with};
 
 use crate::stops::RestoreStop;
 use backup_machine::Kept;
@@ -23,6 +23,21 @@ pub(crate) struct Reading {
     pub(crate) kept: Vec<Kept>,
     pub(crate) ended: bool,
     pub(crate) lines: u32,
+}
+
+/// Keeps what a line says.
+fn hear(item: BackupItem, kept: &mut Vec<Kept>, ended: &mut bool) -> Result<(), OutOfMemory>
+    ensures kept { OnOk result (kept.new.items ≡ kept_with kept.old.items item) }
+    ensures ended { OnOk result (ended.new ≡ ended_with ended.old item) }
+{
+    match item {
+        BackupItem::Object(object) => kept.push(object)?,
+        BackupItem::End => *ended = true,
+        BackupItem::Head => {}
+        BackupItem::Call => {}
+        BackupItem::Place(_) => {}
+    }
+    Ok(())
 }
 
 impl Reading {
@@ -66,7 +81,7 @@ impl Reading {
     /// Takes the line in work.
     fn take(&mut self, alloc: Global) -> Result<(), RestoreStop>
         requires { IsBehind self.old }
-        ensures takes { Takes (λ texts rest. answer_behind self.old (self.old.text.items ∷ texts) rest) self.new result }
+        ensures takes { Takes self.old self.new result }
         ensures behind { OnOk result (IsBehind self.new) }
         ensures more { OnOk result (self.new.lines ≡ self.old.lines + 1) }
         ensures texts { OnOk result (self.new.texts ≡ self.old.texts) }
@@ -78,26 +93,8 @@ impl Reading {
             Err(BackupLineFault::Bad) => return Err(RestoreStop::BadBackup(self.lines + 1)),
             Err(BackupLineFault::OutOfMemory) => return Err(RestoreStop::OutOfMemory),
         };
-        self.hear(item)?;
+        hear(item, &mut self.kept, &mut self.ended)?;
         self.lines += 1;
-        Ok(())
-    }
-
-    /// Keeps what a line says.
-    fn hear(&mut self, item: BackupItem) -> Result<(), OutOfMemory>
-        ensures kept { OnOk result (self.new.kept.items ≡ kept_with self.old.kept.items item) }
-        ensures ended { OnOk result (self.new.ended ≡ ended_with self.old.ended item) }
-        ensures reader { self.new.reader ≡ self.old.reader }
-        ensures lines { self.new.lines ≡ self.old.lines }
-        ensures texts { self.new.texts ≡ self.old.texts }
-    {
-        match item {
-            BackupItem::Object(object) => self.kept.push(object)?,
-            BackupItem::End => self.ended = true,
-            BackupItem::Head => {}
-            BackupItem::Call => {}
-            BackupItem::Place(_) => {}
-        }
         Ok(())
     }
 
