@@ -56,11 +56,11 @@ split [] = record { each = tt; last = refl }
 split (b ∷ bs) =
     cond_both (b == line_feed) (both ([] ∷ (lines_of bs).whole) (lines_of bs).rest) (with_byte b (lines_of bs).whole (lines_of bs).rest) Split
     (λ _. record { each = (refl, (split bs).each); last = (split bs).last })
-    (λ no. go no (lines_of bs).whole (lines_of bs).rest (split bs).each (split bs).last)
+    (λ other. go other (lines_of bs).whole (lines_of bs).rest (split bs).each (split bs).last)
   where
     go : (b == line_feed) ≡ false → (whole : List (List ℕ)) (rest : List ℕ) → AllByRecursion Lacks whole → Lacks rest → Split (with_byte b whole rest)
-    go no [] rest each last = record { each = tt; last = rw (no, last) refl }
-    go no (line ∷ lines) rest each last = record { each = (rw (no, each.0) refl, each.1); last = last }
+    go other [] rest each last = record { each = tt; last = rw (other, last) refl }
+    go other (line ∷ lines) rest each last = record { each = (rw (other, each.0) refl, each.1); last = last }
 
 -- ---- the first bad line
 
@@ -84,14 +84,14 @@ printed_is line more = append_assoc (line_text line) (codes "\n") more
 -- a line that is no line is the first bad one
 bad_here : (s : Standing) (kept : List Kept) (text : List ℕ) (texts : List (List ℕ)) (rest : List ℕ) (n number : ℕ) → Behind s kept → Lacks text
     → ((line : Line) → MayStand s line → text ≡ line_text line → ⊥) → n + 1 ≡ number → HasBad s (text ∷ texts) rest n number
-bad_here s kept text texts rest n number b none no same = record {
+bad_here s kept text texts rest n number b none misfits same = record {
   lines = [];
   last = s;
   stand = refl;
   numbered = omega arith;
   behind = flat_map with_feed (text ∷ texts) ++ rest;
   front = refl;
-  no_line = λ line more may e. no line may (one_split text (line_text line) (flat_map with_feed texts ++ rest) more none (one_line s kept line b may) (sym whole ∙ e ∙ printed_is line more));
+  no_line = λ line more may e. misfits line may (one_split text (line_text line) (flat_map with_feed texts ++ rest) more none (one_line s kept line b may) (sym whole ∙ e ∙ printed_is line more));
   no_end = λ ended e. empty text (sym whole ∙ e);
 }
   where
@@ -125,19 +125,24 @@ bad_at_end s kept n number rest none is = record {
 to_bad : (texts : List (List ℕ)) (s : Standing) (kept : List Kept) (n number : ℕ) (rest : List ℕ) → Behind s kept → AllByRecursion Lacks texts → Lacks rest
     → answer_from s kept n texts rest ≡ BadLine number → HasBad s texts rest n number
 to_bad [] s kept n number rest b each none is = bad_at_end s kept n number rest none is
-to_bad (text ∷ texts) s kept n number rest b each none is = short (is_too_long MAX_LINE text) refl is
+to_bad (text ∷ texts) s kept n number rest b each none is =
+    short (λ line may same. to_bad texts (after s line) (kept_on kept line) (n + 1) number rest (behind_more s kept line b may) each.1 none same)
+    (is_too_long MAX_LINE text) refl is
   where
     next : Line → Answer
     next l = answer_from (after s l) (kept_on kept l) (n + 1) texts rest
 
-    read : (o : Option Line) → line_in s text ≡ o → with_line o (n + 1) next ≡ BadLine number → HasBad s (text ∷ texts) rest n number
-    read None e same =
+    Onward : Type 0
+    Onward = (line : Line) → MayStand s line → next line ≡ BadLine number → HasBad (after s line) texts rest (n + 1) number
+
+    read : Onward → (o : Option Line) → line_in s text ≡ o → with_line o (n + 1) next ≡ BadLine number → HasBad s (text ∷ texts) rest n number
+    read onward None e same =
         bad_here s kept text texts rest n number b each.0
         (λ line may t. let again : line_in s text ≡ Some line = ap (line_in s) t ∙ line_again s line (record { few = b.few }) may in absurd cc)
         (number_of (n + 1) number same)
-    read (Some line) e same =
+    read onward (Some line) e same =
         let takes = line_takes s text line e in
-        let more : HasBad (after s line) texts rest (n + 1) number = to_bad texts (after s line) (kept_on kept line) (n + 1) number rest (behind_more s kept line b takes.0) each.1 none same in
+        let more : HasBad (after s line) texts rest (n + 1) number = onward line takes.0 same in
         record {
           lines = line ∷ more.lines;
           last = more.last;
@@ -151,16 +156,16 @@ to_bad (text ∷ texts) s kept n number rest b each none is = short (is_too_long
           no_end = more.no_end;
         }
 
-    short : (long : Bool) → is_too_long MAX_LINE text ≡ long → cond long (BadLine (n + 1)) (with_line (line_in s text) (n + 1) next) ≡ BadLine number
+    short : Onward → (long : Bool) → is_too_long MAX_LINE text ≡ long → cond long (BadLine (n + 1)) (with_line (line_in s text) (n + 1) next) ≡ BadLine number
         → HasBad s (text ∷ texts) rest n number
-    short true e same =
+    short onward true e same =
         bad_here s kept text texts rest n number b each.0
         (λ line may t. let no : true ≡ false = sym e ∙ ap (is_too_long MAX_LINE) t ∙ short_line s kept line b may in absurd cc)
         (number_of (n + 1) number same)
-    short false e same = read (line_in s text) refl same
+    short onward false e same = read onward (line_in s text) refl same
 
 pub first_bad : (bytes : List ℕ) (number : ℕ) → answer_of bytes ≡ BadLine number → IsFirstBad bytes number
 first_bad bytes number is =
     let parts : Split (lines_of bytes) = split bytes in
     let h : HasBad at_start (lines_of bytes).whole (lines_of bytes).rest 0 number = to_bad (lines_of bytes).whole at_start [] 0 number (lines_of bytes).rest none_behind parts.each parts.last is in
-    record { lines = h.lines; last = h.last; stand = h.stand; numbered = h.numbered; rest = h.behind; front = sym (whole_again bytes) ∙ h.front; no_line = h.no_line; no_end = h.no_end }
+    record { lines = h.lines; last = h.last; stand = h.stand; numbered = (let count = h.numbered in omega (arith, count)); rest = h.behind; front = sym (whole_again bytes) ∙ h.front; no_line = h.no_line; no_end = h.no_end }

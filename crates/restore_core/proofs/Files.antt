@@ -97,16 +97,20 @@ at_the_end s kept objects n rest is = go (is_ended s.stage) rest refl is
 
 to_lines : (texts : List (List ℕ)) (s : Standing) (kept objects : List Kept) (n : ℕ) (rest : List ℕ) → answer_from s kept n texts rest ≡ Restores objects → HasLines s kept texts rest objects
 to_lines [] s kept objects n rest is = at_the_end s kept objects n rest is
-to_lines (text ∷ texts) s kept objects n rest is = short (is_too_long MAX_LINE text) is
+to_lines (text ∷ texts) s kept objects n rest is =
+    short (λ line same. to_lines texts (after s line) (kept_on kept line) objects (n + 1) rest same) (is_too_long MAX_LINE text) is
   where
     next : Line → Answer
     next l = answer_from (after s l) (kept_on kept l) (n + 1) texts rest
 
-    read : (o : Option Line) → line_in s text ≡ o → with_line o (n + 1) next ≡ Restores objects → HasLines s kept (text ∷ texts) rest objects
-    read None e same = absurd cc
-    read (Some line) e same =
+    Behind : Type 0
+    Behind = (line : Line) → next line ≡ Restores objects → HasLines (after s line) (kept_on kept line) texts rest objects
+
+    read : Behind → (o : Option Line) → line_in s text ≡ o → with_line o (n + 1) next ≡ Restores objects → HasLines s kept (text ∷ texts) rest objects
+    read behind None e same = absurd cc
+    read behind (Some line) e same =
         let takes = line_takes s text line e in
-        let more : HasLines (after s line) (kept_on kept line) texts rest objects = to_lines texts (after s line) (kept_on kept line) objects (n + 1) rest same in
+        let more : HasLines (after s line) (kept_on kept line) texts rest objects = behind line same in
         record {
           lines = line ∷ more.lines;
           last = more.last;
@@ -117,9 +121,9 @@ to_lines (text ∷ texts) s kept objects n rest is = short (is_too_long MAX_LINE
           objects_are = more.objects_are ∙ objects_join kept line more.lines;
         }
 
-    short : (b : Bool) → cond b (BadLine (n + 1)) (with_line (line_in s text) (n + 1) next) ≡ Restores objects → HasLines s kept (text ∷ texts) rest objects
-    short true same = absurd cc
-    short false same = read (line_in s text) refl same
+    short : Behind → (b : Bool) → cond b (BadLine (n + 1)) (with_line (line_in s text) (n + 1) next) ≡ Restores objects → HasLines s kept (text ∷ texts) rest objects
+    short behind true same = absurd cc
+    short behind false same = read behind (line_in s text) refl same
 
 pub answers_file : (bytes : List ℕ) (kept : List Kept) → answer_of bytes ≡ Restores kept → IsFile bytes kept
 answers_file bytes kept is =

@@ -1,6 +1,8 @@
 -- One line of a file more, and the end.
 use Rattle.std.proofs.Common.{◌≡◌, ℕ, ◌+◌, Bool, true, false, List, [], ◌∷◌, ◌++◌, length, refl, sym, ap, ◌∙◌, subst, arith}
 use Rattle.std.specs.Prelude.{Option, Some, None, Ok, Err}
+use Rattle.schedule_text.specs.declared.lines.LinesStop.{LinesStop}
+use Rattle.schedule_text.specs.declared.lines.LinesStop.TheVariants as lines
 use Rattle.backup_machine.specs.declared.objects.Kept.{Kept}
 use Rattle.backup_text.specs.declared.items.BackupItem.{BackupItem}
 use Rattle.backup_text.specs.declared.stages.Stage.{Stage}
@@ -13,6 +15,7 @@ use Rattle.restore_core.specs.declared.stops.RestoreStop.{RestoreStop}
 use Rattle.restore_core.specs.declared.stops.RestoreStop.TheVariants as stops
 use Rattle.long_lines.specs.declared.texts.TextEnd.TheVariants.{Whole, Long, Ended}
 use Rattle.restore_core.specs.Files.{Answer, Restores, BadLine, answer_from, answer_of, is_ended, kept_on}
+use Rattle.restore_core.specs.Stops.{stop_of_lines}
 use Rattle.restore_core.specs.Steps.{Behind, IsFresh, IsBehind, Goes, GoesOn, Says, Takes, answer_behind, answer_here, ended_with, ends_here, kept_with}
 use Rattle.long_lines.specs.Texts.{lines_of, is_too_long, Yields}
 use Rattle.restore_core.proofs.Answering.{Took, answer_at_end, answer_behind_text, answer_long, answer_on, same_kept, took}
@@ -77,12 +80,9 @@ same_behind old line texts rest reader kept lines =
 -- ---- what the next line answers
 
 -- the reader of lines stopped
-pub stopped_goes : (old : Reading) (rest : List ℕ) (new : Reading) (left : Option (List ℕ)) (stop : RestoreStop)
-    → ((line : ℕ) → stop ≡ stops.BadBackup line → ⊥) → Goes old rest new left (Err stop)
-stopped_goes old rest new left (stops.BadBackup line) good = absurd (good line refl)
-stopped_goes old rest new left stops.ReadFault good = tt
-stopped_goes old rest new left stops.WriteFault good = tt
-stopped_goes old rest new left stops.OutOfMemory good = tt
+pub stopped_goes : (old : Reading) (rest : List ℕ) (new : Reading) (left : Option (List ℕ)) (stop : LinesStop) → Goes old rest new left (Err (stop_of_lines stop))
+stopped_goes old rest new left lines.ReadFault = tt
+stopped_goes old rest new left lines.OutOfMemory = tt
 
 -- the input has ended, and the file has not
 pub unended_goes : (old : Reading) (rest : List ℕ) (new : Reading) (left : Option (List ℕ)) (text held : List ℕ) (stop : RestoreStop)
@@ -129,6 +129,12 @@ taken_goes old line rest new left held y reader kept lines takes same = record {
 pub goes_next : (answer : Answer) (old new : Reading) (left left' : Option (List ℕ)) (g : GoesOn answer old left)
     → GoesOn (answer_here old (old.texts ++ g.rest)) new left' → GoesOn answer new left'
 goes_next answer old new left left' g next = record { rest = next.rest; told = next.told; same = g.same ∙ next.same }
+
+-- or the file has ended
+pub ends_well : (bytes : List ℕ) (old new : Reading) (left left' : Option (List ℕ)) (g : GoesOn (answer_of bytes) old left) (taken : Bool) → taken ≡ false
+    → Goes old g.rest new left' (Ok taken) → (answer_of bytes ≡ Restores new.kept.items) × (left' ≡ Some [])
+ends_well bytes old new left left' g true none goes = absurd cc
+ends_well bytes old new left left' g false none goes = (g.same ∙ goes.0, goes.1)
 
 -- before the first line
 pub fresh_goes : (r : Reading) (bytes : List ℕ) (left : Option (List ℕ)) → IsFresh r → left ≡ Some bytes → GoesOn (answer_of bytes) r left

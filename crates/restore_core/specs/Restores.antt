@@ -8,7 +8,7 @@ use Rattle.restore_laws.specs.Restored.{IsRestored}
 use Rattle.restore_laws.specs.Schedules.{restored_setup, restored_events}
 use Rattle.restore_core.specs.declared.stops.RestoreStop.{RestoreStop}
 use Rattle.restore_core.specs.declared.stops.RestoreStop.TheVariants as stops
-use Rattle.restore_core.specs.Files.{IsFile, Answer, Restores, BadLine, answer_of}
+use Rattle.restore_core.specs.Files.{IsFile, IsFirstBad, Answer, Restores, BadLine}
 
 -- The bytes are a file with these objects, and all of them were read; the text is that of the schedule that puts the objects
 -- back; and after the run of that schedule, by the definition of a run, the one copy of the data has exactly these objects.
@@ -34,7 +34,7 @@ pub record StopsWithin (bytes before : List ℕ) (left held : Option (List ℕ))
 
 -- What each stop says of the bytes, and of what was written: nothing, until the whole text is there.
 abbrev pub Stopped : (bytes before : List ℕ) → (left held : Option (List ℕ)) → RestoreStop → Type 0
-Stopped bytes before left held (stops.BadBackup line) = (answer_of bytes ≡ BadLine line) × (held ≡ Some before)
+Stopped bytes before left held (stops.BadBackup line) = IsFirstBad bytes line × (held ≡ Some before)
 Stopped bytes before left held stops.ReadFault = held ≡ Some before
 Stopped bytes before left held stops.WriteFault = StopsWithin bytes before left held
 Stopped bytes before left held stops.OutOfMemory = (held ≡ Some before) ⊎ StopsWithin bytes before left held
