@@ -1,0 +1,5 @@
+pub mod Stops
+pub mod Files
+pub mod Printed
+pub mod Restores
+pub mod Steps
