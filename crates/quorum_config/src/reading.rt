@@ -4,7 +4,7 @@ ghost use Rattle.std.specs.List.{list_all};
 ghost use Rattle.tcs_terms.specs.declared.limits.TheConstants.{MAX_NODES};
 ghost use Rattle.quorum_config.specs.declared.limits.TheConstants.{MAX_PROPOSERS};
 ghost use Rattle.quorum_config.specs.Readings.{is_within, only_within, config_in, version_at, acceptors_at, proposers_at, shards_at, first_config_of, configs_at, begin_at, may_propose, cas_of, cas_at, deliver_at, stop_at, event_at, end_at, events_at, read_at, line_reading};
-ghost use Rattle.quorum_config.specs.Walks.{IsReader, Walks};
+ghost use Rattle.quorum_config.specs.Walks.{IsReader, Walks, read_of};
 ghost use Rattle.quorum_config.specs.declared.places.Place.{Place};
 
 use crate::limits::{FIRST_PROPOSER, MAX_EVENTS, MAX_MESSAGE, MAX_PROPOSERS, MAX_ROUND};
@@ -352,30 +352,50 @@ fn event_at(
     Ok(None)
 }
 
-fn end_at(p: Progress, numbers: &[u64]) -> Read
-    requires reader { IsReader p }
-    requires place { p.place ≡ Place.Events }
-    ensures told { result ≡ end_at p numbers.now }
-    ensures walks { IfSome result (λ r. Walks p r.0 r.1) }
+/// Goes to where a line leads, if it may stand where the reader stands.
+fn go_on(p: &mut Progress, read: Read) -> Option<Item>
+    requires reader { IsReader p.old }
+    requires walks { IfSome read (λ r. Walks p.old r.0 r.1) }
+    ensures told { read_of result p.new ≡ read }
+    ensures walks { IfSome result (λ item. Walks p.old item p.new) }
+    ensures reader { IsReader p.new }
+{
+    match read {
+        None => None,
+        Some((item, next)) => {
+            *p = next;
+            Some(item)
+        }
+    }
+}
+
+fn end_at(p: &mut Progress, numbers: &[u64]) -> Option<Item>
+    requires reader { IsReader p.old }
+    requires place { p.old.place ≡ Place.Events }
+    ensures told { read_of result p.new ≡ end_at p.old numbers.now }
+    ensures walks { IfSome result (λ item. Walks p.old item p.new) }
+    ensures reader { IsReader p.new }
 {
     if numbers.len() == 0 {
-        return Some((
-            Item::End,
-            Progress {
-                place: Place::Ended,
-                ..p
-            },
-        ));
+        p.place = Place::Ended;
+        return Some(Item::End);
     }
     None
 }
 
+/// The reader is changed in place: of all lines, those between `events` and `end` are the many.
 #[tactic(auto, unfolding(crate::specs::Readings::events_at))]
-fn events_at(alloc: Global, p: Progress, verb: &[u8], numbers: &[u64]) -> Result<Read, OutOfMemory>
-    requires reader { IsReader p }
-    requires place { p.place ≡ Place.Events }
-    ensures told { IfOk result (λ read. read ≡ events_at p verb.now numbers.now) }
-    ensures walks { IfOk result (λ read. IfSome read (λ r. Walks p r.0 r.1)) }
+fn events_at(
+    alloc: Global,
+    p: &mut Progress,
+    verb: &[u8],
+    numbers: &[u64],
+) -> Result<Option<Item>, OutOfMemory>
+    requires reader { IsReader p.old }
+    requires place { p.old.place ≡ Place.Events }
+    ensures told { IfOk result (λ item. read_of item p.new ≡ events_at p.old verb.now numbers.now) }
+    ensures walks { IfOk result (λ item. IfSome item (λ i. Walks p.old i p.new)) }
+    ensures reader { IsReader p.new }
 {
     if same_name(verb, b"end") {
         return Ok(end_at(p, numbers));
@@ -383,41 +403,50 @@ fn events_at(alloc: Global, p: Progress, verb: &[u8], numbers: &[u64]) -> Result
     if p.events >= MAX_EVENTS {
         return Ok(None);
     }
-    match event_at(alloc, p, verb, numbers)? {
+    match event_at(alloc, *p, verb, numbers)? {
         None => Ok(None),
-        Some(event) => Ok(Some((
-            Item::Event(event),
-            Progress {
-                events: p.events + 1,
-                ..p
-            },
-        ))),
+        Some(event) => {
+            p.events += 1;
+            Ok(Some(Item::Event(event)))
+        }
     }
 }
 
-fn read_at(alloc: Global, p: Progress, verb: &[u8], numbers: &[u64]) -> Result<Read, OutOfMemory>
-    requires reader { IsReader p }
-    ensures told { IfOk result (λ read. read ≡ read_at p p.place verb.now numbers.now) }
-    ensures walks { IfOk result (λ read. IfSome read (λ r. Walks p r.0 r.1)) }
+fn read_at(
+    alloc: Global,
+    p: &mut Progress,
+    verb: &[u8],
+    numbers: &[u64],
+) -> Result<Option<Item>, OutOfMemory>
+    requires reader { IsReader p.old }
+    ensures told { IfOk result (λ item. read_of item p.new ≡ read_at p.old p.old.place verb.now numbers.now) }
+    ensures walks { IfOk result (λ item. IfSome item (λ i. Walks p.old i p.new)) }
+    ensures reader { IsReader p.new }
 {
-    match p.place {
-        Place::Version => Ok(version_at(p, verb, numbers)),
-        Place::Acceptors => Ok(acceptors_at(p, verb, numbers)),
-        Place::Proposers => Ok(proposers_at(p, verb, numbers)),
-        Place::Shards => Ok(shards_at(p, verb, numbers)),
-        Place::Configs => configs_at(alloc, p, verb, numbers),
-        Place::Begin => Ok(begin_at(p, verb, numbers)),
+    let at = *p;
+    match at.place {
+        Place::Version => Ok(go_on(p, version_at(at, verb, numbers))),
+        Place::Acceptors => Ok(go_on(p, acceptors_at(at, verb, numbers))),
+        Place::Proposers => Ok(go_on(p, proposers_at(at, verb, numbers))),
+        Place::Shards => Ok(go_on(p, shards_at(at, verb, numbers))),
+        Place::Configs => Ok(go_on(p, configs_at(alloc, at, verb, numbers)?)),
+        Place::Begin => Ok(go_on(p, begin_at(at, verb, numbers))),
         Place::Events => events_at(alloc, p, verb, numbers),
         Place::Ended => Ok(None),
     }
 }
 
-/// Takes a line, if it may stand where the reader stands.
+/// Takes a line, if it may stand where the reader stands, and goes on behind it.
 #[tactic(auto, unfolding(crate::specs::Readings::line_reading))]
-pub(crate) fn read_line(alloc: Global, p: Progress, line: &[u8]) -> Result<Read, OutOfMemory>
-    requires reader { IsReader p }
-    ensures told { IfOk result (λ read. read ≡ line_reading p line.now) }
-    ensures walks { IfOk result (λ read. IfSome read (λ r. Walks p r.0 r.1)) }
+pub(crate) fn read_line(
+    alloc: Global,
+    p: &mut Progress,
+    line: &[u8],
+) -> Result<Option<Item>, OutOfMemory>
+    requires reader { IsReader p.old }
+    ensures told { IfOk result (λ item. read_of item p.new ≡ line_reading p.old line.now) }
+    ensures walks { IfOk result (λ item. IfSome item (λ i. Walks p.old i p.new)) }
+    ensures reader { IsReader p.new }
 {
     match parts_of(alloc, line)? {
         None => Ok(None),

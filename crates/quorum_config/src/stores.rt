@@ -94,10 +94,9 @@ impl Store {
         ensures { IfOk result (λ fits. TakesOrNot fits self.old line.now self.new text.new.items) }
     {
         text.clear();
-        match read_line(self.alloc, self.progress, line)? {
+        match read_line(self.alloc, &mut self.progress, line)? {
             None => Ok(false),
-            Some((item, progress)) => {
-                self.progress = progress;
+            Some(item) => {
                 self.work(item, text)?;
                 Ok(true)
             }
