@@ -1,5 +1,5 @@
 -- What the next line does to a reader. No clause of `quorum` cites this module.
-use Rattle.std.specs.Prelude.{◌≡◌, ℕ, ◌+◌, ◌-◌, ◌<◌, ◌≤◌, Bool, true, false, Option, Some, None}
+use Rattle.std.specs.Prelude.{◌≡◌, ℕ, ◌+◌, ◌-◌, ◌<◌, ◌≤◌, Bool, true, false, List, Option, Some, None}
 use Rattle.tcs_terms.specs.declared.limits.TheConstants.{MAX_SHARDS}
 use Rattle.quorum_protocol.specs.declared.terms.Event.{Event}
 use Rattle.quorum_config.specs.declared.places.Place.{Place}
@@ -46,6 +46,11 @@ abbrev pub lines_left : Progress → ℕ
 lines_left p = lines_left_at p p.place
 
 -- ---- one line
+
+-- these numbers, if all words were numbers
+abbrev pub some_if : Bool → List ℕ → Option (List ℕ)
+some_if true ns = Some ns
+some_if false ns = None
 
 -- before the line `events` was taken
 abbrev pub InHeader : Place → Type 0

@@ -436,10 +436,11 @@ fn read_at(
     }
 }
 
-/// Takes a line, if it may stand where the reader stands, and goes on behind it.
+/// Takes a line, if it may stand where the reader stands, and goes on behind it. The buffer is room for its numbers.
 #[tactic(auto, unfolding(crate::specs::Readings::line_reading))]
 pub(crate) fn read_line(
     alloc: Global,
+    numbers: &mut Vec<u64>,
     p: &mut Progress,
     line: &[u8],
 ) -> Result<Option<Item>, OutOfMemory>
@@ -448,8 +449,8 @@ pub(crate) fn read_line(
     ensures walks { IfOk result (λ item. IfSome item (λ i. Walks p.old i p.new)) }
     ensures reader { IsReader p.new }
 {
-    match parts_of(alloc, line)? {
+    match parts_of(numbers, line)? {
         None => Ok(None),
-        Some(parts) => read_at(alloc, p, parts.verb, &parts.numbers),
+        Some(verb) => read_at(alloc, p, verb, numbers),
     }
 }
