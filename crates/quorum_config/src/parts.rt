@@ -1,8 +1,7 @@
 //! A line: its first word, and all others as numbers.
-ghost use Rattle.std.specs.Prelude.{◌≡◌, ◌==◌, ◌<◌, ◌∷◌, [], length, position, IfOk, IfSome, MatchOption};
+ghost use Rattle.std.specs.Prelude.{◌≡◌, ◌==◌, ◌<◌, ◌≤◌, ◌∷◌, [], None, Some, if◌then◌else◌, length, position, IfOk, IfSome, MatchOption};
 ghost use Rattle.quorum_config.specs.Walks.{some_if};
 ghost use Rattle.std.specs.Option.{option_map};
-ghost use Rattle.std.specs.Prelude.{◌≤◌, if◌then◌else◌, None, Some};
 ghost use Rattle.std.specs.Char.{is_ascii_digit};
 ghost use Rattle.std.specs.List.{list_all};
 ghost use Rattle.std.specs.Str.Parse.{digits_value};
@@ -34,7 +33,7 @@ fn cut(text: &[u8]) -> Option<(&[u8], &[u8])>
     }
 }
 
-/// The value of digits, of which a number of 64 bits has room for so many.
+/// The value of at most so many digits.
 fn value_of(word: &[u8]) -> Option<u64>
     requires { length word.now ≤ MAX_DIGITS }
     ensures { result ≡ (if list_all is_ascii_digit word.now then Some (digits_value 10 word.now) else None) }

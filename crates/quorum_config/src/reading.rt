@@ -15,7 +15,8 @@ use std::alloc::Global;
 use tcs_terms::limits::{MAX_EPOCH, MAX_NODES, MAX_SHARDS};
 use tcs_terms::{Config, Epoch, NodeId, OutOfMemory, ShardId, same_name};
 
-/// What a line is, and where the reader stands after it.
+/// What a line is, and where the reader stands after it. What makes one, for a line of the header or the last line, is
+/// kept apart (`inline(never)`): an event's line, of which there are many, is not to make room for it.
 type Read = Option<(Item, Progress)>;
 
 fn is_within(low: u64, high: u64, number: u64) -> bool
@@ -82,6 +83,7 @@ fn config_in(
 }
 
 #[tactic(auto, unfolding(crate::specs::Readings::version_at))]
+#[inline(never)]
 fn version_at(p: Progress, verb: &[u8], numbers: &[u64]) -> Read
     requires reader { IsReader p }
     requires place { p.place ≡ Place.Version }
@@ -104,6 +106,7 @@ fn version_at(p: Progress, verb: &[u8], numbers: &[u64]) -> Read
 }
 
 #[tactic(auto, unfolding(crate::specs::Readings::acceptors_at))]
+#[inline(never)]
 fn acceptors_at(p: Progress, verb: &[u8], numbers: &[u64]) -> Read
     requires reader { IsReader p }
     requires place { p.place ≡ Place.Acceptors }
@@ -132,6 +135,7 @@ fn acceptors_at(p: Progress, verb: &[u8], numbers: &[u64]) -> Read
 }
 
 #[tactic(auto, unfolding(crate::specs::Readings::proposers_at))]
+#[inline(never)]
 fn proposers_at(p: Progress, verb: &[u8], numbers: &[u64]) -> Read
     requires reader { IsReader p }
     requires place { p.place ≡ Place.Proposers }
@@ -155,6 +159,7 @@ fn proposers_at(p: Progress, verb: &[u8], numbers: &[u64]) -> Read
 }
 
 #[tactic(auto, unfolding(crate::specs::Readings::shards_at))]
+#[inline(never)]
 fn shards_at(p: Progress, verb: &[u8], numbers: &[u64]) -> Read
     requires reader { IsReader p }
     requires place { p.place ≡ Place.Shards }
@@ -215,6 +220,7 @@ fn first_config_of(
 }
 
 #[tactic(auto, unfolding(crate::specs::Readings::configs_at))]
+#[inline(never)]
 fn configs_at(alloc: Global, p: Progress, verb: &[u8], numbers: &[u64]) -> Result<Read, OutOfMemory>
     requires reader { IsReader p }
     requires place { p.place ≡ Place.Configs }
@@ -228,6 +234,7 @@ fn configs_at(alloc: Global, p: Progress, verb: &[u8], numbers: &[u64]) -> Resul
 }
 
 #[tactic(auto, unfolding(crate::specs::Readings::begin_at))]
+#[inline(never)]
 fn begin_at(p: Progress, verb: &[u8], numbers: &[u64]) -> Read
     requires reader { IsReader p }
     requires place { p.place ≡ Place.Begin }
