@@ -15,8 +15,8 @@ use std::alloc::Global;
 use tcs_terms::limits::{MAX_EPOCH, MAX_NODES, MAX_SHARDS};
 use tcs_terms::{Config, Epoch, NodeId, OutOfMemory, ShardId, same_name};
 
-/// What a line is, and where the reader stands after it. What makes one, for a line of the header or the last line, is
-/// kept apart (`inline(never)`): an event's line, of which there are many, is not to make room for it.
+/// What a line is, and where the reader stands after it. What makes one, for a line of the header, is kept apart
+/// (`inline(never)`): an event's line, of which there are many, is not to make room for it.
 type Read = Option<(Item, Progress)>;
 
 fn is_within(low: u64, high: u64, number: u64) -> bool
