@@ -52,6 +52,11 @@ module _ (n shard : ℕ) (name : List ℕ) where
       let one = smaller (is_counter name) (lies_in n shard name) (find named p.writes) in
       subst (λ o. unwrap_or (cond (is_counter name) (option_map worth o) None) 0 ≤ amount p name) (sym (found p.writes)) one
 
+  -- it is as much, where the object lies in the shard
+  pub part_adds_same : (p : Accesses) → lies_in n shard name ≡ true → amount (part_in n shard p) name ≡ amount p name
+  part_adds_same p here =
+      ap (λ o. unwrap_or (cond (is_counter name) (option_map worth o) None) 0) (found p.writes ∙ cond-true (lies_in n shard name) (find named p.writes) None here)
+
   -- so it is with the payload of a row
   pub row_adds_less : (p q : Accesses) → Some q ≡ restricted n shard p → amount q name ≤ amount p name
   row_adds_less p q is = restricted_cases n shard p (λ o. Some q ≡ o → amount q name ≤ amount p name)

@@ -21,7 +21,7 @@ use Rattle.counters.proofs.CommittedRows.{payload_at}
 
 module _ (name : List ℕ) where
   -- the total of payloads, from the first one on
-  total_first : (p : Accesses) (ps : List Accesses) → total_of (p ∷ ps) name ≡ amount p name + total_of ps name
+  pub total_first : (p : Accesses) (ps : List Accesses) → total_of (p ∷ ps) name ≡ amount p name + total_of ps name
   total_first p ps = let one = go (added_by p.writes name) ps in one
     where
       step : Option ℕ → Accesses → Option ℕ
@@ -51,15 +51,15 @@ module _ (name : List ℕ) where
     abbrev pub total_txns : List TxId → ℕ
     total_txns ts = total_of (payloads_of h ts) name
 
-    total_more : (t : TxId) (ts : List TxId) → total_txns (t ∷ ts) ≡ worth (payload_in h t) + total_txns ts
+    pub total_more : (t : TxId) (ts : List TxId) → total_txns (t ∷ ts) ≡ worth (payload_in h t) + total_txns ts
     total_more t ts = total_option (payload_in h t) (payloads_of h ts)
 
     -- a transaction is taken out
-    abbrev without : TxId → List TxId → List TxId
+    abbrev pub without : TxId → List TxId → List TxId
     without t [] = []
     without t (u ∷ us) = cond (same_txn t u) us (u ∷ without t us)
 
-    taken_out : (t : TxId) (ts : List TxId) → StandsIn t ts → total_txns ts ≡ worth (payload_in h t) + total_txns (without t ts)
+    pub taken_out : (t : TxId) (ts : List TxId) → StandsIn t ts → total_txns ts ≡ worth (payload_in h t) + total_txns (without t ts)
     taken_out t [] there = absurd there
     taken_out t (u ∷ us) there = elim (cases_Bool (same_txn t u)) [
       | inl same ↦ total_more u us

@@ -1,0 +1,10 @@
+pub mod Answering
+pub mod Begun
+pub mod CommutingEvents
+pub mod CommutingHeader
+pub mod Countable
+pub mod HeldBy
+pub mod RuleLines
+pub mod Stopping
+pub mod Theorems
+pub mod Told

@@ -1,0 +1,4 @@
+pub mod Holdings
+pub mod Progressing
+pub mod Telling
+pub mod Totalling
