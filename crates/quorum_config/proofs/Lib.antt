@@ -1,5 +1,6 @@
 pub mod NumberLists
 pub mod Digits
+pub mod ShortNumbers
 pub mod MessageLines
 pub mod Steps
 pub mod RunTexts

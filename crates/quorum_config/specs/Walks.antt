@@ -1,5 +1,5 @@
 -- What the next line does to a reader. No clause of `quorum` cites this module.
-use Rattle.std.specs.Prelude.{◌≡◌, ℕ, ◌+◌, ◌-◌, ◌<◌, ◌≤◌, Bool, true, false}
+use Rattle.std.specs.Prelude.{◌≡◌, ℕ, ◌+◌, ◌-◌, ◌<◌, ◌≤◌, Bool, true, false, List, Option, Some, None}
 use Rattle.tcs_terms.specs.declared.limits.TheConstants.{MAX_SHARDS}
 use Rattle.quorum_protocol.specs.declared.terms.Event.{Event}
 use Rattle.quorum_config.specs.declared.places.Place.{Place}
@@ -7,6 +7,7 @@ use Rattle.quorum_config.specs.declared.places.Place.TheVariants as places
 use Rattle.quorum_config.specs.declared.places.Progress.{Progress}
 use Rattle.quorum_config.specs.declared.places.Item.{Item}
 use Rattle.quorum_config.specs.declared.places.Item.TheVariants as items
+use Rattle.quorum_config.specs.Readings.{Read}
 use Rattle.quorum_config.specs.declared.limits.TheConstants.{MAX_PROPOSERS, MAX_EVENTS}
 
 -- ---- where a reader may stand
@@ -46,6 +47,11 @@ lines_left p = lines_left_at p p.place
 
 -- ---- one line
 
+-- these numbers, if all words were numbers
+abbrev pub some_if : Bool → List ℕ → Option (List ℕ)
+some_if true ns = Some ns
+some_if false ns = None
+
 -- before the line `events` was taken
 abbrev pub InHeader : Place → Type 0
 InHeader places.Version = Unit {0}
@@ -68,6 +74,11 @@ pub record Walks (p : Progress) (item : Item) (q : Progress) : Type 0 where
   pub leads : Leads p item q
   pub stands : IsReader q
   pub fewer : lines_left q < lines_left p
+
+-- what a line is, if it may stand, and where the reader stands after it, as one reading
+abbrev pub read_of : Option Item → Progress → Read
+read_of None q = None
+read_of (Some item) q = Some (item, q)
 
 -- whether the line `end` was taken
 abbrev pub is_ended : Place → Bool

@@ -29,6 +29,15 @@ fn put_digits(out: &mut Vec<u8>, number: u64) -> Result<(), OutOfMemory>
     )
 }
 
+/// A space and a number of more digits. It stands alone, so that the short numbers don't pay for its buffer.
+#[inline(never)]
+fn put_long(out: &mut Vec<u8>, number: u64) -> Result<(), OutOfMemory>
+    ensures { OnOk result (out.new.items ≡ out.old.items ++ spaced_number number) }
+{
+    put(out, b" ")?;
+    put_number(out, number)
+}
+
 /// A space and a number. Most numbers of a run have one digit or two, and are appended at once.
 fn put_field(out: &mut Vec<u8>, number: u64) -> Result<(), OutOfMemory>
     ensures { OnOk result (out.new.items ≡ out.old.items ++ spaced_number number) }
@@ -39,8 +48,7 @@ fn put_field(out: &mut Vec<u8>, number: u64) -> Result<(), OutOfMemory>
     if number < 100 {
         return put_digits(out, number);
     }
-    put(out, b" ")?;
-    put_number(out, number)
+    put_long(out, number)
 }
 
 fn put_outcome(out: &mut Vec<u8>, outcome: Outcome) -> Result<(), OutOfMemory>

@@ -4,7 +4,7 @@ ghost use Rattle.std.specs.List.{list_all};
 ghost use Rattle.tcs_terms.specs.declared.limits.TheConstants.{MAX_NODES};
 ghost use Rattle.quorum_config.specs.declared.limits.TheConstants.{MAX_PROPOSERS};
 ghost use Rattle.quorum_config.specs.Readings.{is_within, only_within, config_in, version_at, acceptors_at, proposers_at, shards_at, first_config_of, configs_at, begin_at, may_propose, cas_of, cas_at, deliver_at, stop_at, event_at, end_at, events_at, read_at, line_reading};
-ghost use Rattle.quorum_config.specs.Walks.{IsReader, Walks};
+ghost use Rattle.quorum_config.specs.Walks.{IsReader, Walks, read_of};
 ghost use Rattle.quorum_config.specs.declared.places.Place.{Place};
 
 use crate::limits::{FIRST_PROPOSER, MAX_EVENTS, MAX_MESSAGE, MAX_PROPOSERS, MAX_ROUND};
@@ -15,7 +15,8 @@ use std::alloc::Global;
 use tcs_terms::limits::{MAX_EPOCH, MAX_NODES, MAX_SHARDS};
 use tcs_terms::{Config, Epoch, NodeId, OutOfMemory, ShardId, same_name};
 
-/// What a line is, and where the reader stands after it.
+/// What a line is, and where the reader stands after it. What makes one, for a line of the header, is kept apart
+/// (`inline(never)`): an event's line, of which there are many, is not to make room for it.
 type Read = Option<(Item, Progress)>;
 
 fn is_within(low: u64, high: u64, number: u64) -> bool
@@ -82,6 +83,7 @@ fn config_in(
 }
 
 #[tactic(auto, unfolding(crate::specs::Readings::version_at))]
+#[inline(never)]
 fn version_at(p: Progress, verb: &[u8], numbers: &[u64]) -> Read
     requires reader { IsReader p }
     requires place { p.place ≡ Place.Version }
@@ -104,6 +106,7 @@ fn version_at(p: Progress, verb: &[u8], numbers: &[u64]) -> Read
 }
 
 #[tactic(auto, unfolding(crate::specs::Readings::acceptors_at))]
+#[inline(never)]
 fn acceptors_at(p: Progress, verb: &[u8], numbers: &[u64]) -> Read
     requires reader { IsReader p }
     requires place { p.place ≡ Place.Acceptors }
@@ -132,6 +135,7 @@ fn acceptors_at(p: Progress, verb: &[u8], numbers: &[u64]) -> Read
 }
 
 #[tactic(auto, unfolding(crate::specs::Readings::proposers_at))]
+#[inline(never)]
 fn proposers_at(p: Progress, verb: &[u8], numbers: &[u64]) -> Read
     requires reader { IsReader p }
     requires place { p.place ≡ Place.Proposers }
@@ -155,6 +159,7 @@ fn proposers_at(p: Progress, verb: &[u8], numbers: &[u64]) -> Read
 }
 
 #[tactic(auto, unfolding(crate::specs::Readings::shards_at))]
+#[inline(never)]
 fn shards_at(p: Progress, verb: &[u8], numbers: &[u64]) -> Read
     requires reader { IsReader p }
     requires place { p.place ≡ Place.Shards }
@@ -215,6 +220,7 @@ fn first_config_of(
 }
 
 #[tactic(auto, unfolding(crate::specs::Readings::configs_at))]
+#[inline(never)]
 fn configs_at(alloc: Global, p: Progress, verb: &[u8], numbers: &[u64]) -> Result<Read, OutOfMemory>
     requires reader { IsReader p }
     requires place { p.place ≡ Place.Configs }
@@ -228,6 +234,7 @@ fn configs_at(alloc: Global, p: Progress, verb: &[u8], numbers: &[u64]) -> Resul
 }
 
 #[tactic(auto, unfolding(crate::specs::Readings::begin_at))]
+#[inline(never)]
 fn begin_at(p: Progress, verb: &[u8], numbers: &[u64]) -> Read
     requires reader { IsReader p }
     requires place { p.place ≡ Place.Begin }
@@ -352,30 +359,50 @@ fn event_at(
     Ok(None)
 }
 
-fn end_at(p: Progress, numbers: &[u64]) -> Read
-    requires reader { IsReader p }
-    requires place { p.place ≡ Place.Events }
-    ensures told { result ≡ end_at p numbers.now }
-    ensures walks { IfSome result (λ r. Walks p r.0 r.1) }
+/// Goes to where a line leads, if it may stand where the reader stands.
+fn go_on(p: &mut Progress, read: Read) -> Option<Item>
+    requires reader { IsReader p.old }
+    requires walks { IfSome read (λ r. Walks p.old r.0 r.1) }
+    ensures told { read_of result p.new ≡ read }
+    ensures walks { IfSome result (λ item. Walks p.old item p.new) }
+    ensures reader { IsReader p.new }
+{
+    match read {
+        None => None,
+        Some((item, next)) => {
+            *p = next;
+            Some(item)
+        }
+    }
+}
+
+fn end_at(p: &mut Progress, numbers: &[u64]) -> Option<Item>
+    requires reader { IsReader p.old }
+    requires place { p.old.place ≡ Place.Events }
+    ensures told { read_of result p.new ≡ end_at p.old numbers.now }
+    ensures walks { IfSome result (λ item. Walks p.old item p.new) }
+    ensures reader { IsReader p.new }
 {
     if numbers.len() == 0 {
-        return Some((
-            Item::End,
-            Progress {
-                place: Place::Ended,
-                ..p
-            },
-        ));
+        p.place = Place::Ended;
+        return Some(Item::End);
     }
     None
 }
 
+/// The reader is changed in place: of all lines, those between `events` and `end` are the many.
 #[tactic(auto, unfolding(crate::specs::Readings::events_at))]
-fn events_at(alloc: Global, p: Progress, verb: &[u8], numbers: &[u64]) -> Result<Read, OutOfMemory>
-    requires reader { IsReader p }
-    requires place { p.place ≡ Place.Events }
-    ensures told { IfOk result (λ read. read ≡ events_at p verb.now numbers.now) }
-    ensures walks { IfOk result (λ read. IfSome read (λ r. Walks p r.0 r.1)) }
+fn events_at(
+    alloc: Global,
+    p: &mut Progress,
+    verb: &[u8],
+    numbers: &[u64],
+) -> Result<Option<Item>, OutOfMemory>
+    requires reader { IsReader p.old }
+    requires place { p.old.place ≡ Place.Events }
+    ensures told { IfOk result (λ item. read_of item p.new ≡ events_at p.old verb.now numbers.now) }
+    ensures walks { IfOk result (λ item. IfSome item (λ i. Walks p.old i p.new)) }
+    ensures reader { IsReader p.new }
 {
     if same_name(verb, b"end") {
         return Ok(end_at(p, numbers));
@@ -383,44 +410,54 @@ fn events_at(alloc: Global, p: Progress, verb: &[u8], numbers: &[u64]) -> Result
     if p.events >= MAX_EVENTS {
         return Ok(None);
     }
-    match event_at(alloc, p, verb, numbers)? {
+    match event_at(alloc, *p, verb, numbers)? {
         None => Ok(None),
-        Some(event) => Ok(Some((
-            Item::Event(event),
-            Progress {
-                events: p.events + 1,
-                ..p
-            },
-        ))),
+        Some(event) => {
+            p.events += 1;
+            Ok(Some(Item::Event(event)))
+        }
     }
 }
 
-fn read_at(alloc: Global, p: Progress, verb: &[u8], numbers: &[u64]) -> Result<Read, OutOfMemory>
-    requires reader { IsReader p }
-    ensures told { IfOk result (λ read. read ≡ read_at p p.place verb.now numbers.now) }
-    ensures walks { IfOk result (λ read. IfSome read (λ r. Walks p r.0 r.1)) }
+fn read_at(
+    alloc: Global,
+    p: &mut Progress,
+    verb: &[u8],
+    numbers: &[u64],
+) -> Result<Option<Item>, OutOfMemory>
+    requires reader { IsReader p.old }
+    ensures told { IfOk result (λ item. read_of item p.new ≡ read_at p.old p.old.place verb.now numbers.now) }
+    ensures walks { IfOk result (λ item. IfSome item (λ i. Walks p.old i p.new)) }
+    ensures reader { IsReader p.new }
 {
-    match p.place {
-        Place::Version => Ok(version_at(p, verb, numbers)),
-        Place::Acceptors => Ok(acceptors_at(p, verb, numbers)),
-        Place::Proposers => Ok(proposers_at(p, verb, numbers)),
-        Place::Shards => Ok(shards_at(p, verb, numbers)),
-        Place::Configs => configs_at(alloc, p, verb, numbers),
-        Place::Begin => Ok(begin_at(p, verb, numbers)),
+    let at = *p;
+    match at.place {
+        Place::Version => Ok(go_on(p, version_at(at, verb, numbers))),
+        Place::Acceptors => Ok(go_on(p, acceptors_at(at, verb, numbers))),
+        Place::Proposers => Ok(go_on(p, proposers_at(at, verb, numbers))),
+        Place::Shards => Ok(go_on(p, shards_at(at, verb, numbers))),
+        Place::Configs => Ok(go_on(p, configs_at(alloc, at, verb, numbers)?)),
+        Place::Begin => Ok(go_on(p, begin_at(at, verb, numbers))),
         Place::Events => events_at(alloc, p, verb, numbers),
         Place::Ended => Ok(None),
     }
 }
 
-/// Takes a line, if it may stand where the reader stands.
+/// Takes a line, if it may stand where the reader stands, and goes on behind it. The buffer is room for its numbers.
 #[tactic(auto, unfolding(crate::specs::Readings::line_reading))]
-pub(crate) fn read_line(alloc: Global, p: Progress, line: &[u8]) -> Result<Read, OutOfMemory>
-    requires reader { IsReader p }
-    ensures told { IfOk result (λ read. read ≡ line_reading p line.now) }
-    ensures walks { IfOk result (λ read. IfSome read (λ r. Walks p r.0 r.1)) }
+pub(crate) fn read_line(
+    alloc: Global,
+    numbers: &mut Vec<u64>,
+    p: &mut Progress,
+    line: &[u8],
+) -> Result<Option<Item>, OutOfMemory>
+    requires reader { IsReader p.old }
+    ensures told { IfOk result (λ item. read_of item p.new ≡ line_reading p.old line.now) }
+    ensures walks { IfOk result (λ item. IfSome item (λ i. Walks p.old i p.new)) }
+    ensures reader { IsReader p.new }
 {
-    match parts_of(alloc, line)? {
+    match parts_of(numbers, line)? {
         None => Ok(None),
-        Some(parts) => read_at(alloc, p, parts.verb, &parts.numbers),
+        Some(verb) => read_at(alloc, p, verb, numbers),
     }
 }

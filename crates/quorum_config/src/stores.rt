@@ -14,12 +14,13 @@ use std::alloc::Global;
 use std::marker::Model;
 use tcs_terms::OutOfMemory;
 
-/// Where the reader stands, and the world of the events so far.
+/// Where the reader stands, and the world of the events so far; and room for the numbers of a line.
 #[derive(Debug, Drop)]
 pub(crate) struct Store {
     alloc: Global,
     progress: Progress,
     world: World,
+    numbers: Vec<u64>,
 }
 
 impl Model for Store {
@@ -49,6 +50,7 @@ impl Store {
                 events: 0,
             },
             world: World::first(alloc, 0),
+            numbers: Vec::new(alloc),
         }
     }
 
@@ -94,10 +96,9 @@ impl Store {
         ensures { IfOk result (λ fits. TakesOrNot fits self.old line.now self.new text.new.items) }
     {
         text.clear();
-        match read_line(self.alloc, self.progress, line)? {
+        match read_line(self.alloc, &mut self.numbers, &mut self.progress, line)? {
             None => Ok(false),
-            Some((item, progress)) => {
-                self.progress = progress;
+            Some(item) => {
                 self.work(item, text)?;
                 Ok(true)
             }
