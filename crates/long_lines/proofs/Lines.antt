@@ -1,6 +1,5 @@
 -- The lines of bytes that begin with a text in which no line feed stands.
 use Rattle.std.proofs.Common.{◌≡◌, ℕ, ◌≤◌, true, false, ◌==◌, List, [], ◌∷◌, ◌++◌, length, refl, sym, ap, ◌∙◌, append-nil, length-append, arith}
-use Rattle.std.specs.Prelude.{nat_lt}
 use Rattle.std.proofs.lemmas.Bool.{cond-false, or_parts, ltb-true, ltb-false, lt-ltb}
 use Rattle.schedule_text.specs.Lines.{line_feed, has_feed}
 use Rattle.long_lines.specs.Texts.{Lines, with_byte, lines_of, is_too_long}

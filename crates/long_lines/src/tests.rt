@@ -18,10 +18,17 @@ fn lines_are_put_together(rt: HostRuntime) -> Result<(), Fail> {
         let mut source = MemSource::new(all, 1000, Vec::new(alloc));
         let mut texts = Texts::begin(alloc)?;
         let mut text = Vec::new(alloc);
-        assert_eq!(rt; texts.next_text(&mut source, &mut text, most), Ok(end), "{bytes}");
+        assert_eq!(rt;
+            texts.next_text(&mut source, &mut text, most),
+            Ok(end),
+            "{bytes}"
+        );
         if end == TextEnd::Whole {
             assert_eq!(rt; text.len(), bytes);
-            assert_eq!(rt; texts.next_text(&mut source, &mut text, most), Ok(TextEnd::Ended));
+            assert_eq!(rt;
+                texts.next_text(&mut source, &mut text, most),
+                Ok(TextEnd::Ended)
+            );
             assert_eq!(rt; text.as_slice(), b"rest".as_slice());
         }
     }

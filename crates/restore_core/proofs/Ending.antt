@@ -1,5 +1,5 @@
 -- How a restore ends, by how its reading and its writing ended.
-use Rattle.std.proofs.Common.{◌≡◌, ℕ, List, [], Option, Some, Ok, Err, refl, sym, subst, inl, inr}
+use Rattle.std.proofs.Common.{◌≡◌, ℕ, List, [], Option, Some, Err, refl, sym, subst, inl, inr}
 use Rattle.tcs_io.specs.Bytes.{HoldsFront}
 use Rattle.tcs_io.specs.Faults.{Rose}
 use Rattle.tcs_io.specs.declared.writing.SinkStop.{SinkStop}

@@ -1,5 +1,5 @@
 -- Files, and the answer to their bytes.
-use Rattle.std.proofs.Common.{◌≡◌, ℕ, ◌+◌, Bool, true, false, ◌==◌, cond, List, [], ◌∷◌, ◌++◌, length, filter_map, refl, sym, ap, ◌∙◌, subst, append_assoc, append-nil}
+use Rattle.std.proofs.Common.{◌≡◌, ℕ, ◌+◌, Bool, true, false, ◌==◌, cond, List, [], ◌∷◌, ◌++◌, refl, sym, ap, ◌∙◌, append_assoc, append-nil}
 use Rattle.std.specs.Prelude.{Option, Some, None, codes}
 use Rattle.std.specs.List.{flat_map}
 use Rattle.std.proofs.lemmas.Bool.{cond_both, cond-false, eqb-true}
@@ -10,7 +10,7 @@ use Rattle.backup_machine.specs.declared.objects.Kept.{Kept}
 use Rattle.backup_text.specs.declared.stages.Stage.{Stage}
 use Rattle.backup_text.specs.declared.stages.Stage.TheVariants.{Start, Begun, AtPlace, NoPlace, Ended}
 use Rattle.backup_text.specs.declared.limits.TheConstants.{MAX_LINE}
-use Rattle.backup_text.specs.Lines.{Line, Standing, MayStand, after, at_start, line_text, printed}
+use Rattle.backup_text.specs.Lines.{Line, Standing, after, at_start, line_text, printed}
 use Rattle.backup_text.specs.Readings.{line_in}
 use Rattle.backup_text.proofs.LineWords.{line_takes, line_again}
 use Rattle.restore_core.specs.Files.{Answer, Restores, BadLine, IsFile, Stand, at_end, answer_from, answer_of, is_ended, kept_on, object_on, objects_on, with_line}

@@ -1,5 +1,5 @@
 -- The objects of lines that may stand: no more than may be, names strictly ascending, each of which can be put back.
-use Rattle.std.proofs.Common.{◌≡◌, ℕ, ◌+◌, ◌<◌, ◌≤◌, ◌&&◌, Bool, true, false, List, [], ◌∷◌, ◌++◌, length, map, All, refl, sym, ap, ◌∙◌, subst, append-nil, length-append, arith}
+use Rattle.std.proofs.Common.{◌≡◌, ℕ, ◌+◌, ◌≤◌, true, false, List, [], ◌∷◌, ◌++◌, map, refl, sym, ap, ◌∙◌, subst, append-nil, length-append, arith}
 use Rattle.std.specs.Prelude.{Option, Some, None}
 use Rattle.std.proofs.lemmas.List.Elements.{All-nil, All-cons, All-append}
 use Rattle.tcs_terms.specs.declared.ids.TxId.{TxId}
@@ -7,7 +7,6 @@ use Rattle.tcs_terms.specs.Order.{name_before, names_ascend}
 use Rattle.tcs_terms.proofs.BoolLaws.{both, left_of, right_of}
 use Rattle.backup_machine.specs.declared.objects.Kept.{Kept}
 use Rattle.backup_machine.specs.Objects.{comes_after}
-use Rattle.backup_text.specs.declared.items.BackupItem.{BackupItem}
 use Rattle.backup_text.specs.declared.stages.Stage.{Stage}
 use Rattle.backup_text.specs.declared.stages.Stage.TheVariants.{Start, Begun, AtPlace, NoPlace, Ended}
 use Rattle.backup_text.specs.Lines.{Line, HeadLine, CallLine, PlaceLine, ObjectLine, EndLine, Standing, MayStand, after, at_start, has_place, item_of, stage_behind}

@@ -1,20 +1,19 @@
 -- One line of a file more, and the end.
-use Rattle.std.proofs.Common.{◌≡◌, ℕ, ◌+◌, Bool, true, false, List, [], ◌∷◌, ◌++◌, length, refl, sym, ap, ◌∙◌, subst, arith}
-use Rattle.std.specs.Prelude.{Option, Some, None, Ok, Err}
+use Rattle.std.proofs.Common.{◌≡◌, ℕ, ◌+◌, Bool, true, false, List, [], ◌∷◌, ◌++◌, sym, ap, ◌∙◌, subst}
+use Rattle.std.specs.Prelude.{Option, Some, Ok, Err}
 use Rattle.schedule_text.specs.declared.lines.LinesStop.{LinesStop}
 use Rattle.schedule_text.specs.declared.lines.LinesStop.TheVariants as lines
 use Rattle.backup_machine.specs.declared.objects.Kept.{Kept}
 use Rattle.backup_text.specs.declared.items.BackupItem.{BackupItem}
-use Rattle.backup_text.specs.declared.stages.Stage.{Stage}
 use Rattle.backup_text.specs.declared.limits.TheConstants.{MAX_LINE}
-use Rattle.backup_text.specs.Lines.{Standing, MayStand, after, at_start, item_of}
+use Rattle.backup_text.specs.Lines.{Standing, MayStand, after, at_start}
 use Rattle.backup_text.specs.Readings.{line_in, Takes as Reads}
 use Rattle.backup_text.proofs.LineWords.{line_takes}
 use Rattle.restore_core.specs.declared.reading.Reading.{Reading}
 use Rattle.restore_core.specs.declared.stops.RestoreStop.{RestoreStop}
 use Rattle.restore_core.specs.declared.stops.RestoreStop.TheVariants as stops
 use Rattle.long_lines.specs.declared.texts.TextEnd.TheVariants.{Whole, Long, Ended}
-use Rattle.restore_core.specs.Files.{Answer, Restores, BadLine, answer_from, answer_of, is_ended, kept_on}
+use Rattle.restore_core.specs.Files.{Answer, Restores, BadLine, answer_from, answer_of, is_ended}
 use Rattle.restore_core.specs.Stops.{stop_of_lines}
 use Rattle.restore_core.specs.Steps.{Behind, IsFresh, IsBehind, Goes, GoesOn, Says, Takes, answer_behind, answer_here, ended_with, ends_here, kept_with}
 use Rattle.long_lines.specs.Texts.{lines_of, is_too_long, Yields}

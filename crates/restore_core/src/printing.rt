@@ -80,7 +80,6 @@ fn put_objects(alloc: Global, kept: &[Kept], out: &mut Vec<u8>) -> Result<(), Ou
     Ok(())
 }
 
-
 fn put_header(out: &mut Vec<u8>) -> Result<(), OutOfMemory>
     ensures { OnOk result (out.new.items ≡ out.old.items ++ header_text) }
 {

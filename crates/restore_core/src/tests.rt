@@ -31,8 +31,8 @@ const TWO_BACK: &str = concat!(
 const ABORTED: &str = "backup 1 a c\ndid certify 1 v 1 q a c 0\ncut -\n";
 
 /// What is written of a file, behind the header of the schedule, or else why nothing is.
-fn told(alloc: Global, file: &str, most: usize) -> Result<String, Fail> {
-    let mut input = MemSource::new(file.as_bytes().to_vec(alloc)?, most, Vec::new(alloc));
+fn told(alloc: Global, file: &str) -> Result<String, Fail> {
+    let mut input = MemSource::new(file.as_bytes().to_vec(alloc)?, 100, Vec::new(alloc));
     let mut output = MemSink::new(alloc, Vec::new(alloc));
     match restore(alloc, &mut input, &mut output) {
         Ok(()) => {
@@ -57,15 +57,16 @@ fn worked_files_are_restored(rt: HostRuntime) -> Result<(), Fail> {
         (two.as_str(), two_back.as_str()),
         (aborted.as_str(), "end\n"),
         ("backup 1 a c\nobj b 0 06\nend 1\n", "bad backup line 2"),
-        ("backup 1 a c\ncut 1.3\nobj b 0 06\nend 1\n", "bad backup line 3"),
+        (
+            "backup 1 a c\ncut 1.3\nobj b 0 06\nend 1\n",
+            "bad backup line 3",
+        ),
         ("", "bad backup line 1"),
         (cut_off.as_str(), "bad backup line 8"),
         (more.as_str(), "bad backup line 9"),
         (fewer.as_str(), "bad backup line 8"),
     ] {
-        for most in [1, 100] {
-            assert_eq!(rt; told(alloc, file, most)?.as_str(), wanted, "{file}");
-        }
+        assert_eq!(rt; told(alloc, file)?.as_str(), wanted, "{file}");
     }
     Ok(())
 }
@@ -73,13 +74,21 @@ fn worked_files_are_restored(rt: HostRuntime) -> Result<(), Fail> {
 #[test]
 fn a_line_may_be_longer_than_that_of_a_schedule(rt: HostRuntime) -> Result<(), Fail> {
     let alloc = rt.alloc();
-    for (bytes, wanted) in [(4096, "end\n"), (4097, "bad backup line 2"), (9000, "bad backup line 2")] {
+    for (bytes, wanted) in [
+        (4096, "end\n"),
+        (4097, "bad backup line 2"),
+        (9000, "bad backup line 2"),
+    ] {
         let mut call = String::new(alloc);
         for _ in 0..bytes {
             call.push('x')?;
         }
         let file = format!(in alloc; "backup 1 a c\ndid {call}\ncut -\nend 0\n")?;
-        assert_eq!(rt; told(alloc, file.as_str(), 1000)?.as_str(), wanted, "{bytes}");
+        assert_eq!(rt;
+            told(alloc, file.as_str())?.as_str(),
+            wanted,
+            "{bytes}"
+        );
     }
     Ok(())
 }
