@@ -1,0 +1,30 @@
+//! The setup of every generated schedule.
+ghost use Rattle.std.specs.Prelude.{◌≡◌, ◌<◌, ◌≤◌, IfOk};
+ghost use Rattle.generated_runs.specs.Setup.{config_of, setup};
+
+use std::alloc::Global;
+use tcs_terms::{Config, OutOfMemory, Rule, Setup};
+
+/// The first configuration of a shard: its leader and the node behind it.
+fn config_of(shard: u8, leader: u8) -> Config
+    requires shards { shard ≡ 1 }
+    ensures { result ≡ config_of shard leader }
+{
+    Config::of(shard, 1, &[leader, leader + 1], leader, 0)
+}
+
+/// Three shards of three nodes each, under the serial rule.
+pub(crate) fn generated_setup(alloc: Global) -> Result<Setup, OutOfMemory>
+    ensures { IfOk result (λ s. s ≡ setup) }
+{
+    let mut nodes = Vec::new(alloc);
+    nodes.extend_from_slice(&[1, 1, 1, 2, 2, 2, 3, 3, 3])?;
+    let mut configs = Vec::new(alloc);
+    configs.push(config_of(1, 1))?;
+    configs.push(config_of(2, 4))?;
+    configs.push(config_of(3, 7))?;
+    match Setup::build(Rule::Serial, 3, nodes, configs) {
+        Ok(setup) => Ok(setup),
+        Err(_) => Err(OutOfMemory),
+    }
+}

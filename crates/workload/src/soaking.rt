@@ -1,0 +1,73 @@
+//! `soak`: what a generated run comes to.
+ghost use Rattle.std.specs.Prelude.{◌≡◌, ◌≤◌, ◌++◌, false, true, codes, decimal, ℕ, List, Some, IfOk, OnOk, IfErr, IsErrOf};
+ghost use Rattle.tcs_io.specs.Faults.{Rose};
+ghost use Rattle.protocol_laws.specs.Promises.{world_of};
+ghost use Rattle.world.specs.WorldState.{events_of};
+ghost use Rattle.generated_runs.specs.Runs.{KeepsWithin, IsFullAt};
+ghost use Rattle.workload.specs.Counts.{soak_text};
+ghost use Rattle.workload.specs.Outcomes.{Tells, SoakStopped, Stayed, WritesFully, StopsBy};
+
+use crate::counts::{aborted_of, begun_of};
+use crate::generations::{choose, happen};
+use crate::setups::generated_setup;
+use crate::stops::GenStop;
+use conflict_index::SerialIndex;
+use generator::Course;
+use std::alloc::Global;
+use tcs_io::{Sink, write_all};
+use tcs_terms::OutOfMemory;
+use text_words::{put, put_byte, put_number};
+use world::World;
+
+/// Steps the run of the schedule of a seed with so many events, 30 to 50,000, and writes its five counts: events,
+/// messages, and the transactions that were begun, committed and aborted.
+///
+/// # Errors
+/// `Full` where the frames of the run would pass the limit with an event, with the sum of their bytes; `WriteFault` only
+/// where the sink counted a fault.
+pub fn soak<K: Sink>(alloc: Global, seed: u64, count: u32, output: &mut K) -> Result<(), GenStop>
+    requires least { 30 ≤ count }
+    requires most { count ≤ 50000 }
+    ensures whole { (before : List ℕ) → K.held output.old ≡ Some before → OnOk result (Tells seed count before (K.held output.new)) }
+    ensures stopped { (before : List ℕ) → K.held output.old ≡ Some before → IfErr result (SoakStopped seed count before (K.held output.new)) }
+    ensures complete { Stayed (K.faults output.old) (K.faults output.new) → KeepsWithin seed count count → WritesFully result }
+    ensures full { Stayed (K.faults output.old) (K.faults output.new)
+        → (place sum : ℕ) → IsFullAt seed count place sum → StopsBy (GenStop.Full sum) result }
+    ensures wrote { K.faults output.old ≤ K.faults output.new }
+    ensures write_fault { IsErrOf result GenStop.WriteFault → Rose (K.faults output.old) (K.faults output.new) }
+{
+    let mut course = Course::first(alloc, seed);
+    let mut world = World::<SerialIndex>::new(alloc, generated_setup(alloc)?)?;
+    for place in 1..count + 1 {
+        let next = choose(alloc, &mut course, &world, count, place)?;
+        happen(&mut course, &mut world, next)?;
+    }
+    let text = soak_text(alloc, &world)?;
+    write_all(output, &text)?;
+    Ok(())
+}
+
+/// A space and a number.
+fn put_count(text: &mut Vec<u8>, count: u64) -> Result<(), OutOfMemory>
+    ensures { OnOk result (text.new.items ≡ text.old.items ++ (codes " " ++ decimal count)) }
+{
+    put_byte(text, b' ')?;
+    put_number(text, count)
+}
+
+/// The line of the five counts.
+fn soak_text(alloc: Global, world: &World<SerialIndex>) -> Result<Vec<u8>, OutOfMemory>
+    requires { world.now.spent ≡ false }
+    ensures { IfOk result (λ text. text.items ≡ soak_text (events_of world.now.progress) (world_of world.now.progress)) }
+{
+    let history = world.history();
+    let mut text = Vec::new(alloc);
+    put(&mut text, b"soak")?;
+    put_count(&mut text, u64::from(world.events()))?;
+    put_count(&mut text, u64::from(world.messages()))?;
+    put_count(&mut text, begun_of(alloc, history)? as u64)?;
+    put_count(&mut text, world.order().len() as u64)?;
+    put_count(&mut text, aborted_of(alloc, history)? as u64)?;
+    put_byte(&mut text, b'\n')?;
+    Ok(text)
+}
