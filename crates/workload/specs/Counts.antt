@@ -2,11 +2,10 @@
 use Rattle.std.specs.Prelude.{ℕ, List, ◌++◌, codes, decimal, length, filter_map, Option, Some, None}
 use Rattle.tcs_terms.specs.declared.ids.TxId.{TxId}
 use Rattle.tcs_terms.specs.declared.inputs.Note.{Note}
+use Rattle.judge.specs.Verdicts.{abort_in}
 use Rattle.tcs_terms.specs.declared.inputs.Note.TheVariants.{Begin, Take, ReadValue, Decide}
 use Rattle.protocol.specs.History.{first_of_each, order_of}
 use Rattle.protocol.specs.World.{World}
-use Rattle.tcs_terms.specs.declared.votes.Decision.{Decision}
-use Rattle.tcs_terms.specs.declared.votes.Decision.TheVariants.{Commit, Abort}
 
 -- the transaction that a note begins, if it does
 abbrev pub begun_in : Note → Option TxId
@@ -18,17 +17,6 @@ begun_in (Decide txn decision) = None
 -- the transactions that were begun
 abbrev pub begun_of : List Note → List TxId
 begun_of h = first_of_each (filter_map begun_in h)
-
-abbrev pub aborts_by : TxId → Decision → Option TxId
-aborts_by txn Commit = None
-aborts_by txn (Abort shard cause) = Some txn
-
--- the transaction that a note decides to abort, if it does
-abbrev pub abort_in : Note → Option TxId
-abort_in (Begin txn payload) = None
-abort_in (Take txn) = None
-abort_in (ReadValue name version value) = None
-abort_in (Decide txn decision) = aborts_by txn decision
 
 -- the transactions that were decided to abort
 abbrev pub aborted_of : List Note → List TxId

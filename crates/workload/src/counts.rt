@@ -1,7 +1,8 @@
 //! How many transactions notes begin and abort.
 ghost use Rattle.std.specs.Prelude.{◌≡◌, length, IfOk, OnOk};
-ghost use Rattle.protocol_laws.specs.Growth.{with_commit};
-ghost use Rattle.workload.specs.Counts.{abort_in, begun_in, begun_of, aborted_of};
+ghost use Rattle.judge.specs.Verdicts.{abort_in};
+ghost use Rattle.judge.specs.Watching.{put_next};
+ghost use Rattle.workload.specs.Counts.{begun_in, begun_of, aborted_of};
 
 use indexmap::IndexSet;
 use std::alloc::Global;
@@ -13,9 +14,7 @@ fn begun_in(note: &Note) -> Option<TxId>
 {
     match note {
         Note::Begin { txn, .. } => Some(*txn),
-        Note::Take { .. } => None,
-        Note::ReadValue { .. } => None,
-        Note::Decide { .. } => None,
+        Note::Take { .. } | Note::ReadValue { .. } | Note::Decide { .. } => None,
     }
 }
 
@@ -24,23 +23,17 @@ fn abort_in(note: &Note) -> Option<TxId>
     ensures { result ≡ abort_in note.now }
 {
     match note {
-        Note::Decide {
-            txn,
-            decision: Decision::Abort { .. },
-        } => Some(*txn),
-        Note::Decide {
-            txn: _,
-            decision: Decision::Commit,
-        } => None,
-        Note::Begin { .. } => None,
-        Note::Take { .. } => None,
-        Note::ReadValue { .. } => None,
+        Note::Begin { .. } | Note::Take { .. } | Note::ReadValue { .. } => None,
+        Note::Decide { txn, decision } => match decision {
+            Decision::Commit => None,
+            Decision::Abort { .. } => Some(*txn),
+        },
     }
 }
 
-/// One transaction more, if there is one and it is new.
-fn keep(txns: &mut IndexSet<TxId>, txn: Option<TxId>) -> Result<(), OutOfMemory>
-    ensures { OnOk result (txns.new.keys ≡ with_commit txns.old.keys txn) }
+/// Puts a transaction last, if there is one, unless it is there.
+fn put_next(txns: &mut IndexSet<TxId>, txn: Option<TxId>) -> Result<(), OutOfMemory>
+    ensures { OnOk result (txns.new.keys ≡ put_next txns.old.keys txn) }
 {
     match txn {
         None => Ok(()),
@@ -57,7 +50,7 @@ pub(crate) fn begun_of(alloc: Global, history: &[Note]) -> Result<usize, OutOfMe
 {
     let mut txns = IndexSet::new(alloc);
     for note in history {
-        keep(&mut txns, begun_in(note))?;
+        put_next(&mut txns, begun_in(note))?;
     }
     Ok(txns.len())
 }
@@ -68,7 +61,7 @@ pub(crate) fn aborted_of(alloc: Global, history: &[Note]) -> Result<usize, OutOf
 {
     let mut txns = IndexSet::new(alloc);
     for note in history {
-        keep(&mut txns, abort_in(note))?;
+        put_next(&mut txns, abort_in(note))?;
     }
     Ok(txns.len())
 }
