@@ -1,16 +1,19 @@
 //! One event of a generated run.
-ghost use Rattle.std.specs.Prelude.{◌≡◌, ◌<◌, ◌≤◌, false, true, length, IfOk, OnOk, IfErr};
+ghost use Rattle.std.specs.Prelude.{◌≡◌, ◌+◌, ◌<◌, ◌≤◌, false, true, suc, length, IfOk, OnOk, IfErr};
 ghost use Rattle.cert_serial.specs.Serial.{serial};
 ghost use Rattle.protocol_laws.specs.Promises.{world_of};
 ghost use Rattle.tcs_terms.specs.Runs.{MayStand};
 ghost use Rattle.world.specs.WorldState.{events_of};
 ghost use Rattle.world.specs.declared.limits.TheConstants.{MAX_EVENTS};
+ghost use Rattle.generator.specs.Courses.{HasRoom};
 ghost use Rattle.generated_runs.specs.Setup.{setup};
 ghost use Rattle.generated_runs.specs.Sights.{event_of};
-ghost use Rattle.generated_runs.specs.Runs.{next_in, is_read, is_live, serial_step, with_answer};
+ghost use Rattle.generated_runs.specs.Runs.{next_in, next_event, generated, is_read, is_live, serial_step, with_answer};
+ghost use Rattle.workload.specs.Standing.{StandsAt, StopsBehind};
 ghost use Rattle.workload.specs.Stops.{StopsAt};
 
 use crate::events::event_of;
+use crate::plans::Plan;
 use crate::sights::waits_in;
 use crate::stops::GenStop;
 use generator::{Course, Doing};
@@ -27,7 +30,7 @@ pub(crate) struct Next {
 }
 
 /// Chooses what happens at a place, from 1, of a schedule of so many events.
-pub(crate) fn choose<G: VoteGuard>(
+fn choose<G: VoteGuard>(
     alloc: Global,
     course: &mut Course,
     world: &World<G>,
@@ -37,6 +40,7 @@ pub(crate) fn choose<G: VoteGuard>(
     requires count { count ≤ 50000 }
     requires lives { world.now.spent ≡ false }
     requires sent { 0 < length course.old.queue → 0 < length (world_of world.now.progress).messages }
+    requires room { HasRoom course.old.transfer }
     ensures event { IfOk result (λ n. n.event ≡ event_of (world_of world.now.progress) (next_in (world_of world.now.progress) count place course.old).doing) }
     ensures reads { IfOk result (λ n. n.reads ≡ is_read (next_in (world_of world.now.progress) count place course.old).doing) }
     ensures course { OnOk result (course.new ≡ (next_in (world_of world.now.progress) count place course.old).course) }
@@ -56,17 +60,15 @@ pub(crate) fn happen<G: VoteGuard>(
     requires certifier { G.Rule.tests ≡ serial }
     requires lives { world.old.spent ≡ false }
     requires setup { world.old.setup ≡ setup }
+    requires fits { MayStand setup next.event }
+    requires few { events_of world.old.progress < MAX_EVENTS }
     ensures course { OnOk result (course.new ≡ with_answer (length (world_of world.old.progress).messages) next.reads (serial_step world.old.progress next.event).answer course.old) }
     ensures run { OnOk result (world.new.progress ≡ (serial_step world.old.progress next.event).after) }
     ensures setup { OnOk result (world.new.setup ≡ setup) }
     ensures lives { OnOk result (world.new.spent ≡ false) }
     ensures within { OnOk result (is_live world.new.progress ≡ true) }
-    ensures fits { OnOk result (MayStand setup next.event) }
     ensures stopped { IfErr result (StopsAt (serial_step world.old.progress next.event).answer) }
 {
-    if !world.takes(&next.event) {
-        return Err(GenStop::OutOfMemory);
-    }
     let before = world.messages();
     let happening = world.step(next.event)?;
     if next.reads {
@@ -74,4 +76,42 @@ pub(crate) fn happen<G: VoteGuard>(
     }
     course.queue_sent(before, happening.sent as u32)?;
     Ok(())
+}
+
+/// Chooses what comes behind the first so many events.
+pub(crate) fn choose_next<G: VoteGuard>(
+    alloc: Global,
+    plan: Plan,
+    place: u32,
+    course: &mut Course,
+    world: &World<G>,
+) -> Result<Next, OutOfMemory>
+    requires most { plan.count ≤ 50000 }
+    requires place { place < plan.count }
+    requires stands { StandsAt plan.seed plan.count place course.old world.now }
+    ensures event { IfOk result (λ n. n.event ≡ next_event plan.count (suc place) (generated plan.seed plan.count place)) }
+    ensures fits { IfOk result (λ n. MayStand setup n.event) }
+    ensures reads { IfOk result (λ n. n.reads ≡ is_read (next_in (world_of world.now.progress) plan.count (suc place) course.old).doing) }
+    ensures course { OnOk result (course.new ≡ (next_in (world_of world.now.progress) plan.count (suc place) course.old).course) }
+{
+    choose(alloc, course, world, plan.count, place + 1)
+}
+
+/// What comes behind the first so many events is chosen and happens.
+pub(crate) fn pass<G: VoteGuard>(
+    alloc: Global,
+    plan: Plan,
+    place: u32,
+    course: &mut Course,
+    world: &mut World<G>,
+) -> Result<(), GenStop>
+    requires certifier { G.Rule.tests ≡ serial }
+    requires most { plan.count ≤ 50000 }
+    requires place { place < plan.count }
+    requires stands { StandsAt plan.seed plan.count place course.old world.old }
+    ensures stands { OnOk result (StandsAt plan.seed plan.count (suc place) course.new world.new) }
+    ensures stopped { IfErr result (StopsBehind plan.seed plan.count place) }
+{
+    let next = choose_next(alloc, plan, place, course, world)?;
+    happen(course, world, next)
 }

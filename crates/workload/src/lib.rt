@@ -6,6 +6,7 @@ mod counts;
 mod events;
 mod generating;
 mod generations;
+mod plans;
 mod setups;
 mod sights;
 mod soaking;
