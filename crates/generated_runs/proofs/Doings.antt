@@ -1,12 +1,10 @@
 -- The event of what is to be done: it may stand in a run of the setup, and it hands in a payload only where that was to be
 -- done.
-use Rattle.std.proofs.Common.{◌≡◌, ℕ, ◌+◌, ◌≤◌, ◌<◌, ◌^◌, ◌==◌, nat_le, Bool, true, false, ◌&&◌, ◌||◌, List, [], ◌∷◌, length, map, find, Option, Some, None, refl, sym, subst, ap, ◌∙◌, arith, le-leb, leb-true}
-use Rattle.std.specs.Prelude.{All, is_none}
+use Rattle.std.proofs.Common.{◌≡◌, ℕ, ◌≤◌, ◌^◌, ◌==◌, true, List, [], ◌∷◌, length, find, Option, Some, None, refl, subst, ap, arith, le-leb, leb-true}
 use Rattle.std.proofs.lemmas.List.Elements.{All-nil, All-cons}
 use Rattle.tcs_terms.proofs.BoolLaws.{both}
 use Rattle.tcs_terms.specs.declared.ids.TxId.{TxId}
-use Rattle.tcs_terms.specs.declared.inputs.Event.{Event}
-use Rattle.tcs_terms.specs.declared.inputs.Event.TheVariants.{Call, DeliverNumber}
+use Rattle.tcs_terms.specs.declared.inputs.Event.TheVariants.{Call}
 use Rattle.tcs_terms.specs.declared.inputs.Input.TheVariants as inputs
 use Rattle.tcs_terms.specs.declared.limits.TheConstants.{MAX_MEMBERS, MAX_NODES, MAX_SHARDS}
 use Rattle.tcs_terms.specs.declared.logs.Row.{Row}
@@ -26,7 +24,7 @@ use Rattle.generator.specs.declared.doings.Doing.TheVariants as doings
 use Rattle.generated_runs.specs.Setup.{setup, config_of}
 use Rattle.generated_runs.specs.Sights.{event_of, reader_in, known_leader, leader_of, taken_over, nudged, moved_by, orphan_of, is_orphan, txn_of_row}
 use Rattle.generated_runs.proofs.Known.{Known}
-use Rattle.generated_runs.proofs.Wellness.{IsNumber, IsWell}
+use Rattle.generated_runs.proofs.Wellness.{IsWell}
 
 -- ---- the setup
 
@@ -114,7 +112,7 @@ may_stand top w doings.Nudge k few is = nudge_stands
 may_stand top w (doings.Deliver number) k few is =
     record { event = let n : number ≤ length w.messages = is.few in omega (arith, n, few); fits = le-leb 1 number is.some }
 may_stand top w (doings.Read name) k few is = record { event = is; fits = both (has_node setup.nodes (reader_in w name)) true (leads top w name k) refl }
-may_stand top w (doings.Certify payload) k few is = payload_stands payload is.0 is.1.0
+may_stand top w (doings.Certify payload) k few is = payload_stands payload is.0 is.1
 
 -- ---- what is handed in
 

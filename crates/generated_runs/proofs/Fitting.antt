@@ -1,22 +1,17 @@
 -- While a generated run goes on, each of its events may stand, and what comes next may too.
-use Rattle.std.proofs.Common.{◌≡◌, ℕ, zero, suc, ◌+◌, ◌≤◌, ◌<◌, ◌^◌, ◌==◌, nat_lt, Bool, true, false, ◌&&◌, List, [], ◌∷◌, ◌++◌, length, length-append, ◌⊎◌, inl, inr, refl, sym, subst, ap, ◌∙◌, arith, append-nil, eqb-true}
+use Rattle.std.proofs.Common.{◌≡◌, ℕ, zero, suc, ◌+◌, ◌≤◌, ◌<◌, ◌^◌, ◌==◌, nat_lt, Bool, true, false, List, [], ◌∷◌, ◌++◌, length, length-append, ◌⊎◌, inl, inr, refl, sym, subst, ap, ◌∙◌, arith, eqb-true}
 use Rattle.std.specs.List.{AllByRecursion, list_any, range_with_len}
 use Rattle.cert_serial.specs.Serial.{serial}
-use Rattle.tcs_terms.proofs.BoolLaws.{left_of, right_of}
-use Rattle.tcs_terms.proofs.RunLaws.{one_more}
-use Rattle.tcs_terms.specs.declared.ids.TxId.{TxId}
+use Rattle.tcs_terms.proofs.BoolLaws.{right_of}
 use Rattle.tcs_terms.specs.declared.inputs.Event.{Event}
-use Rattle.tcs_terms.specs.declared.inputs.Event.TheVariants.{Call}
-use Rattle.tcs_terms.specs.declared.inputs.Input.TheVariants as inputs
 use Rattle.tcs_terms.specs.declared.inputs.Note.{Note}
 use Rattle.tcs_terms.specs.declared.inputs.Note.TheVariants as notes
-use Rattle.tcs_terms.specs.Payloads.{Accesses, same_name}
+use Rattle.tcs_terms.specs.Payloads.{same_name}
 use Rattle.tcs_terms.specs.Runs.{AreEventsOf, MayStand}
 use Rattle.protocol.specs.Invariant.Time.{StandsIn}
 use Rattle.protocol.specs.Limit.{Progress, Step, frame_bytes, frame_limit, limited_run, limited_step}
 use Rattle.protocol.specs.Limit.Progress.{Live, Ended}
 use Rattle.protocol.specs.OneCopy.{tells_version}
-use Rattle.protocol.specs.Run.{run}
 use Rattle.protocol.specs.World.{World, Sent, first_world, world_step}
 use Rattle.protocol.proofs.Lists.{StandsIn-append}
 use Rattle.protocol_laws.specs.Growth.{CountsHold}
@@ -31,7 +26,7 @@ use Rattle.generator.specs.declared.doings.Doing.TheVariants as doings
 use Rattle.generator.specs.declared.transfers.Transfer.{Transfer}
 use Rattle.generator.specs.declared.transfers.Transfer.TheVariants.{Idle, Begun, Half, Whole}
 use Rattle.generator.specs.Accounts.{account_name}
-use Rattle.generator.specs.Courses.{CourseState, HasRoom, IsTransfer, with_reading, with_note, with_notes, numbers_behind}
+use Rattle.generator.specs.Courses.{CourseState, HasRoom, IsTransfer, with_reading, with_notes, numbers_behind}
 use Rattle.generated_runs.specs.Setup.{setup}
 use Rattle.generated_runs.specs.Sights.{event_of, waits_in}
 use Rattle.generated_runs.specs.Runs.{State, next, next_event, serial_step, is_read, is_live, heard, with_answer, after, generated, events_until}
@@ -120,7 +115,7 @@ begun_more : (top sent : ℕ) (w : World) (doing : Doing) (event : Event) (ns : 
     → BegunUpTo (suc top) (w.history ++ ns)
 begun_more top sent w doing event ns e is b one txn payload s = go (StandsIn-append w.history ns (notes.Begin txn payload) s) where
   well : doing ≡ doings.Certify payload → payload.version ≤ suc top
-  well q = let p : IsWell sent top (doings.Certify payload) = subst (IsWell sent top) q is in let above : payload.version ≤ top + 1 = p.1.1 in omega (arith, above)
+  well q = let p : IsWell sent top (doings.Certify payload) = subst (IsWell sent top) q is in let above : payload.version ≤ top + 1 = p.2 in omega (arith, above)
 
   at : (n : Note) → NotedAt event n → StandsIn (notes.Begin txn payload) (n ∷ []) → payload.version ≤ suc top
   at n fits (inr none) = absurd none
@@ -218,7 +213,7 @@ fits_on seed count place f r live =
     let x = next count (suc place) s in
     let event = next_event count (suc place) s in
     record {
-      events = record { deployment = setup_is; events = one_more setup (events_until seed count place) event f.events.events r.next };
+      events = record { deployment = setup_is; events = each-joined (MayStand setup) (events_until seed count place) (event ∷ []) f.events.events (r.next, tt) };
       stands = stands_stepped place s.progress event x.doing x.course refl r.well.doing r.well.kept f.stands.begun live;
     }
 

@@ -1,7 +1,6 @@
 -- What is known of a generated world while its run goes on: leaders are nodes, transactions in rows are the setup's, and
 -- what was read has a version that some payload had.
-use Rattle.std.proofs.Common.{◌≡◌, ℕ, ◌+◌, ◌≤◌, ◌^◌, ◌==◌, nat_le, Bool, true, false, cond, ◌&&◌, List, [], ◌∷◌, ◌++◌, Some, None, Option, ◌⊎◌, inl, inr, refl, sym, subst, ap, arith}
-use Rattle.std.specs.List.{list_all, list_any}
+use Rattle.std.proofs.Common.{◌≡◌, ℕ, ◌+◌, ◌≤◌, nat_le, Bool, true, false, cond, ◌&&◌, List, [], ◌∷◌, ◌++◌, Some, None, ◌⊎◌, inl, inr, refl, sym, subst, ap, arith}
 use Rattle.cert_serial.specs.Serial.{serial}
 use Rattle.tcs_terms.proofs.BoolLaws.{both, left_of, right_of}
 use Rattle.tcs_terms.specs.declared.ids.TxId.{TxId}
@@ -12,8 +11,7 @@ use Rattle.tcs_terms.specs.declared.limits.TheConstants.{MAX_SEQUENCE}
 use Rattle.tcs_terms.specs.declared.logs.Row.{Row}
 use Rattle.tcs_terms.specs.Events.{may_be_of}
 use Rattle.tcs_terms.specs.Logs.{same_txn}
-use Rattle.tcs_terms.specs.Messages.{is_txn}
-use Rattle.tcs_terms.specs.Payloads.{Accesses, same_name}
+use Rattle.tcs_terms.specs.Payloads.{Accesses}
 use Rattle.tcs_terms.specs.Places.{Membership, is_node}
 use Rattle.tcs_terms.specs.Runs.{AreEventsOf}
 use Rattle.tcs_terms.specs.Setups.{has_node, is_node_of}
@@ -21,7 +19,6 @@ use Rattle.protocol.specs.History.{begins_with, first_some, payload_in}
 use Rattle.protocol.specs.Invariant.{InvariantHolds}
 use Rattle.protocol.specs.Invariant.Readings.{IsWrittenBefore}
 use Rattle.protocol.specs.Invariant.Time.{Moment, StandsIn, time_after}
-use Rattle.protocol.specs.OneCopy.{tells_version}
 use Rattle.protocol.specs.Records.{NodeRecord}
 use Rattle.protocol.specs.Run.{run}
 use Rattle.protocol.specs.World.{World}

@@ -1,21 +1,19 @@
 -- What is chosen is well formed: a number is that of a message, a name is one, and a payload is one.
-use Rattle.std.proofs.Common.{◌≡◌, ℕ, ◌+◌, ◌*◌, ◌/◌, ◌%◌, ◌^◌, ◌<◌, ◌≤◌, ◌==◌, nat_le, Bool, true, false, ◌&&◌, ◌||◌, if◌then◌else◌, length, List, [], ◌∷◌, Option, Some, None, refl, sym, subst, arith}
+use Rattle.std.proofs.Common.{◌≡◌, ℕ, ◌+◌, ◌/◌, ◌%◌, ◌^◌, ◌<◌, ◌≤◌, ◌==◌, nat_le, Bool, true, false, ◌&&◌, ◌||◌, if◌then◌else◌, length, List, [], ◌∷◌, Option, Some, None, refl, arith}
 use Rattle.std.specs.List.{AllByRecursion}
 use Rattle.std.proofs.lemmas.Bool.Decides.{nat_tests}
 use Rattle.std.proofs.lemmas.Nat.{mod_below}
 use Rattle.tcs_terms.proofs.BoolLaws.{neither_left, neither_right}
 use Rattle.tcs_terms.specs.Objects.{IsName}
 use Rattle.tcs_terms.specs.Payloads.{IsPayload}
-use Rattle.generator.specs.declared.accounts.Reading.{Reading}
 use Rattle.generator.specs.declared.transfers.Transfer.{Transfer}
 use Rattle.generator.specs.declared.transfers.Transfer.TheVariants.{Idle, Begun, Half, Whole}
 use Rattle.generator.specs.declared.doings.Doing.{Doing}
 use Rattle.generator.specs.declared.doings.Doing.TheVariants as doings
-use Rattle.generator.specs.Accounts.{account_name}
 use Rattle.generator.specs.Choices.{fixed_at}
 use Rattle.generator.specs.Courses.{CourseState, Chosen, AreAccounts, IsTransfer, does, is_collecting, first_account, second_account, begins, goes_on, delivers_first, delivers_second, by_word, fixed_or, chosen}
 use Rattle.generator.specs.Words.{word, later}
-use Rattle.generator.proofs.Payloads.{IsTransferPayload, transfer_is_payload, account_is_name}
+use Rattle.generator.proofs.Payloads.{transfer_is_payload, account_is_name}
 use Rattle.generated_runs.proofs.Choosing.{if_both, fixed-each}
 
 -- the number of one of so many messages

@@ -1,18 +1,16 @@
 -- What moves an amount is a payload, where the versions that were read leave one above them.
-use Rattle.std.proofs.Common.{◌≡◌, ℕ, zero, suc, ◌+◌, ◌-◌, ◌%◌, ◌<◌, ◌≤◌, ◌^◌, ◌==◌, nat_le, nat_eq, Bool, true, false, ◌&&◌, cond, List, [], ◌∷◌, ◌++◌, length, Some, None, refl, ◌∙◌, arith, leb-true, le-leb}
+use Rattle.std.proofs.Common.{◌≡◌, ℕ, zero, suc, ◌+◌, ◌-◌, ◌%◌, ◌<◌, ◌≤◌, ◌^◌, ◌==◌, nat_le, nat_eq, Bool, true, false, cond, List, [], ◌∷◌, ◌++◌, length, Some, None, refl, arith, leb-true, le-leb}
 use Rattle.std.specs.Prelude.{All, IfSome, Option, max, fold}
 use Rattle.std.specs.Int.{byte_at, bytes_high_first}
-use Rattle.std.specs.List.{AllByRecursion, list_all}
+use Rattle.std.specs.List.{AllByRecursion}
 use Rattle.std.proofs.lemmas.Bool.Decides.{nat_tests}
 use Rattle.std.proofs.lemmas.List.Elements.{All-nil, All-cons}
 use Rattle.tcs_terms.specs.declared.limits.TheConstants.{MAX_NAME, MAX_READS, MAX_VALUE}
-use Rattle.tcs_terms.specs.declared.payloads.ReadPart.{ReadPart}
-use Rattle.tcs_terms.specs.declared.payloads.WritePart.{WritePart}
 use Rattle.tcs_terms.specs.Objects.{IsName, IsValue, is_name_byte}
 use Rattle.tcs_terms.specs.Order.{name_before}
 use Rattle.tcs_terms.specs.Payloads.{same_name, IsPayload, IsReadPart, IsWritePart}
 use Rattle.store_client.specs.declared.parts.Part.{Part}
-use Rattle.store_client.specs.Parts.{AreParts, has, with_read, with_put, read_of, reads, write_of, writes, greatest}
+use Rattle.store_client.specs.Parts.{AreParts, with_read, with_put, read_of, reads, write_of, writes, greatest}
 use Rattle.store_client.proofs.Committing.{parts_are_a_payload}
 use Rattle.store_client.proofs.Putting.{with_put_are}
 use Rattle.store_client.proofs.Reading.{with_read_are}
