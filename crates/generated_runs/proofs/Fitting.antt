@@ -29,7 +29,7 @@ use Rattle.generator.specs.Accounts.{account_name}
 use Rattle.generator.specs.Courses.{CourseState, HasRoom, IsTransfer, with_reading, with_notes, numbers_behind}
 use Rattle.generated_runs.specs.Setup.{setup}
 use Rattle.generated_runs.specs.Sights.{event_of, waits_in}
-use Rattle.generated_runs.specs.Runs.{State, next, next_event, serial_step, is_read, is_live, heard, with_answer, after, generated, events_until}
+use Rattle.generated_runs.specs.Runs.{State, next, next_event, serial_step, is_read, is_live, heard, with_answer, generated, events_until}
 use Rattle.generated_runs.proofs.Choosing.{WasRead, Seen}
 use Rattle.generated_runs.proofs.Doings.{setup_is, may_stand, hands_in}
 use Rattle.generated_runs.proofs.Events.{run_is}
