@@ -56,12 +56,6 @@ Stopped seed count before held stops.OutOfMemory = StopsWithin seed count before
 
 -- ---- which answer comes, whatever the sink tells
 
--- the run passes the limit at some place, by this sum
-abbrev pub Caused : (seed count : ℕ) → GenStop → Type 0
-Caused seed count stops.WriteFault = Unit {0}
-Caused seed count (stops.Full sum) = (place : ℕ) × IsFullAt seed count place sum
-Caused seed count stops.OutOfMemory = Unit {0}
-
 -- no fault was counted
 abbrev pub Stayed : ℕ → ℕ → Type 0
 Stayed before after = Rose before after → ⊥

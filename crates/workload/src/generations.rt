@@ -8,8 +8,8 @@ ghost use Rattle.world.specs.declared.limits.TheConstants.{MAX_EVENTS};
 ghost use Rattle.generator.specs.Courses.{HasRoom};
 ghost use Rattle.generated_runs.specs.Setup.{setup};
 ghost use Rattle.generated_runs.specs.Sights.{event_of};
-ghost use Rattle.generated_runs.specs.Runs.{next_in, next_event, generated, is_read, is_live, serial_step, with_answer};
-ghost use Rattle.workload.specs.Standing.{StandsAt, StopsBehind};
+ghost use Rattle.generated_runs.specs.Runs.{next_in, next, next_event, generated, is_read, is_live, serial_step, with_answer};
+ghost use Rattle.workload.specs.Standing.{StandsAt, WorldStandsAt, IsNext, StopsBehind};
 ghost use Rattle.workload.specs.Stops.{StopsAt};
 
 use crate::events::event_of;
@@ -52,7 +52,7 @@ fn choose<G: VoteGuard>(
 }
 
 /// Lets an event happen that was chosen.
-pub(crate) fn happen<G: VoteGuard>(
+fn happen<G: VoteGuard>(
     course: &mut Course,
     world: &mut World<G>,
     next: Next,
@@ -89,29 +89,30 @@ pub(crate) fn choose_next<G: VoteGuard>(
     requires most { plan.count ≤ 50000 }
     requires place { place < plan.count }
     requires stands { StandsAt plan.seed plan.count place course.old world.now }
+    ensures next { OnOk result (IsNext plan.seed plan.count place course.new) }
     ensures event { IfOk result (λ n. n.event ≡ next_event plan.count (suc place) (generated plan.seed plan.count place)) }
-    ensures fits { IfOk result (λ n. MayStand setup n.event) }
-    ensures reads { IfOk result (λ n. n.reads ≡ is_read (next_in (world_of world.now.progress) plan.count (suc place) course.old).doing) }
-    ensures course { OnOk result (course.new ≡ (next_in (world_of world.now.progress) plan.count (suc place) course.old).course) }
+    ensures reads { IfOk result (λ n. n.reads ≡ is_read (next plan.count (suc place) (generated plan.seed plan.count place)).doing) }
 {
     choose(alloc, course, world, plan.count, place + 1)
 }
 
-/// What comes behind the first so many events is chosen and happens.
-pub(crate) fn pass<G: VoteGuard>(
-    alloc: Global,
+/// Lets happen what comes behind the first so many events.
+pub(crate) fn happen_next<G: VoteGuard>(
     plan: Plan,
     place: u32,
     course: &mut Course,
     world: &mut World<G>,
+    chosen: Next,
 ) -> Result<(), GenStop>
     requires certifier { G.Rule.tests ≡ serial }
     requires most { plan.count ≤ 50000 }
     requires place { place < plan.count }
-    requires stands { StandsAt plan.seed plan.count place course.old world.old }
+    requires world { WorldStandsAt plan.seed plan.count place world.old }
+    requires next { IsNext plan.seed plan.count place course.old }
+    requires event { chosen.event ≡ next_event plan.count (suc place) (generated plan.seed plan.count place) }
+    requires reads { chosen.reads ≡ is_read (next plan.count (suc place) (generated plan.seed plan.count place)).doing }
     ensures stands { OnOk result (StandsAt plan.seed plan.count (suc place) course.new world.new) }
     ensures stopped { IfErr result (StopsBehind plan.seed plan.count place) }
 {
-    let next = choose_next(alloc, plan, place, course, world)?;
-    happen(course, world, next)
+    happen(course, world, chosen)
 }

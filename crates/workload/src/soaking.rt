@@ -1,20 +1,24 @@
 //! `soak`: what a generated run comes to.
-ghost use Rattle.std.specs.Prelude.{◌≡◌, ◌≤◌, ◌++◌, false, true, codes, decimal, ℕ, List, Some, IfOk, OnOk, IfErr, IsErrOf};
+ghost use Rattle.std.specs.Prelude.{◌≡◌, ◌≤◌, ◌++◌, false, codes, decimal, zero, ℕ, List, Some, IfOk, OnOk, IfErr, IsErrOf};
 ghost use Rattle.tcs_io.specs.Faults.{Rose};
+ghost use Rattle.cert_serial.specs.Serial.{serial};
 ghost use Rattle.protocol_laws.specs.Promises.{world_of};
 ghost use Rattle.world.specs.WorldState.{events_of};
 ghost use Rattle.generated_runs.specs.Runs.{KeepsWithin, IsFullAt};
 ghost use Rattle.workload.specs.Counts.{soak_text};
 ghost use Rattle.workload.specs.Outcomes.{Tells, SoakStopped, Stayed, WritesFully, StopsBy};
+ghost use Rattle.workload.specs.Standing.{StandsAt, RunStops};
 
 use crate::counts::{aborted_of, begun_of};
-use crate::generations::{choose, happen};
+use crate::generations::{choose_next, happen_next};
+use crate::plans::Plan;
 use crate::setups::generated_setup;
 use crate::stops::GenStop;
 use conflict_index::SerialIndex;
 use generator::Course;
 use std::alloc::Global;
 use tcs_io::{Sink, write_all};
+use tcs_laws::VoteGuard;
 use tcs_terms::OutOfMemory;
 use text_words::{put, put_byte, put_number};
 use world::World;
@@ -28,22 +32,45 @@ use world::World;
 pub fn soak<K: Sink>(alloc: Global, seed: u64, count: u32, output: &mut K) -> Result<(), GenStop>
     requires least { 30 ≤ count }
     requires most { count ≤ 50000 }
+    // What was written by then.
     ensures whole { (before : List ℕ) → K.held output.old ≡ Some before → OnOk result (Tells seed count before (K.held output.new)) }
     ensures stopped { (before : List ℕ) → K.held output.old ≡ Some before → IfErr result (SoakStopped seed count before (K.held output.new)) }
+
+    // Which answer comes, where no fault was counted.
     ensures complete { Stayed (K.faults output.old) (K.faults output.new) → KeepsWithin seed count count → WritesFully result }
     ensures full { Stayed (K.faults output.old) (K.faults output.new)
         → (place sum : ℕ) → IsFullAt seed count place sum → StopsBy (GenStop.Full sum) result }
+
+    // A fault is told only where it was counted.
     ensures wrote { K.faults output.old ≤ K.faults output.new }
     ensures write_fault { IsErrOf result GenStop.WriteFault → Rose (K.faults output.old) (K.faults output.new) }
 {
+    let plan = Plan { seed, count };
     let mut course = Course::first(alloc, seed);
     let mut world = World::<SerialIndex>::new(alloc, generated_setup(alloc)?)?;
-    for place in 1..count + 1 {
-        let next = choose(alloc, &mut course, &world, count, place)?;
-        happen(&mut course, &mut world, next)?;
-    }
+    run_events(alloc, plan, &mut course, &mut world)?;
     let text = soak_text(alloc, &world)?;
     write_all(output, &text)?;
+    Ok(())
+}
+
+/// Lets all events happen.
+fn run_events<G: VoteGuard>(
+    alloc: Global,
+    plan: Plan,
+    course: &mut Course,
+    world: &mut World<G>,
+) -> Result<(), GenStop>
+    requires certifier { G.Rule.tests ≡ serial }
+    requires most { plan.count ≤ 50000 }
+    requires begins { StandsAt plan.seed plan.count zero course.old world.old }
+    ensures stands { OnOk result (StandsAt plan.seed plan.count plan.count course.new world.new) }
+    ensures stopped { IfErr result (RunStops plan.seed plan.count) }
+{
+    for place in 0..plan.count {
+        let next = choose_next(alloc, plan, place, course, world)?;
+        happen_next(plan, place, course, world, next)?;
+    }
     Ok(())
 }
 
@@ -56,7 +83,7 @@ fn put_count(text: &mut Vec<u8>, count: u64) -> Result<(), OutOfMemory>
 }
 
 /// The line of the five counts.
-fn soak_text(alloc: Global, world: &World<SerialIndex>) -> Result<Vec<u8>, OutOfMemory>
+fn soak_text<G: VoteGuard>(alloc: Global, world: &World<G>) -> Result<Vec<u8>, OutOfMemory>
     requires { world.now.spent ≡ false }
     ensures { IfOk result (λ text. text.items ≡ soak_text (events_of world.now.progress) (world_of world.now.progress)) }
 {
