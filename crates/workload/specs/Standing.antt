@@ -1,12 +1,31 @@
--- Where a generated run stands between two events, and how it stops. No clause of `generate` and `soak` cites this module.
-use Rattle.std.specs.Prelude.{◌≡◌, ℕ, suc, false}
+-- What a step of a generated run tells, where the run stands between two events, and how it stops. No clause of `generate` and `soak` cites this module.
+use Rattle.std.specs.Prelude.{◌≡◌, ℕ, suc, ◌+◌, ◌-◌, ◌≤◌, Bool, true, false, ◌++◌, length, drop}
+use Rattle.tcs_terms.specs.declared.inputs.Event.{Event}
+use Rattle.protocol.specs.Limit.{Progress}
+use Rattle.protocol_laws.specs.Promises.{world_of}
 use Rattle.world.specs.WorldState.{WorldState}
-use Rattle.generator.specs.Courses.{CourseState}
+use Rattle.world.specs.declared.happenings.Happening.{Happening}
+use Rattle.generator.specs.Courses.{CourseState, numbers_behind}
 use Rattle.generated_runs.specs.Setup.{setup}
-use Rattle.generated_runs.specs.Runs.{generated, next, next_step, KeepsWithin, IsFullAt}
+use Rattle.generated_runs.specs.Runs.{generated, next, next_step, serial_step, is_live, heard, with_answer, KeepsWithin, IsFullAt}
 use Rattle.workload.specs.Stops.{StopsAt}
 use Rattle.workload.specs.declared.stops.GenStop.{GenStop}
 use Rattle.workload.specs.declared.stops.GenStop.TheVariants as stops
+
+-- what the generator keeps, where the last so many notes and so many messages came of an event
+abbrev pub told_of : (old new : Progress) → Happening → Bool → CourseState → CourseState
+told_of old new told reads c = record c {
+  queue = c.queue ++ numbers_behind (length (world_of old).messages) told.sent;
+  transfer = heard reads (drop (length (world_of new).history - told.notes) (world_of new).history) c.transfer;
+}
+
+-- an event was taken: the run goes on, and the step told how many notes and messages there are
+pub record Took (old : Progress) (event : Event) (told : Happening) (new : Progress) : Type 0 where
+  pub run : new ≡ (serial_step old event).after
+  pub live : is_live new ≡ true
+  pub notes : told.notes ≤ length (world_of new).history
+  pub sent : length (world_of new).messages ≡ length (world_of old).messages + told.sent
+  pub course : (reads : Bool) (c : CourseState) → with_answer (length (world_of old).messages) reads (serial_step old event).answer c ≡ told_of old new told reads c
 
 -- the world is the definition's after so many events, and the run goes on
 pub record WorldStandsAt (seed count place : ℕ) (world : WorldState) : Type 0 where

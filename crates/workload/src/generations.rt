@@ -1,5 +1,5 @@
 //! One event of a generated run.
-ghost use Rattle.std.specs.Prelude.{◌≡◌, ◌+◌, ◌<◌, ◌≤◌, false, true, suc, length, IfOk, OnOk, IfErr};
+ghost use Rattle.std.specs.Prelude.{◌≡◌, ◌-◌, ◌<◌, ◌≤◌, drop, false, true, suc, length, IfOk, OnOk, IfErr};
 ghost use Rattle.cert_serial.specs.Serial.{serial};
 ghost use Rattle.protocol_laws.specs.Promises.{world_of};
 ghost use Rattle.tcs_terms.specs.Runs.{MayStand};
@@ -8,9 +8,9 @@ ghost use Rattle.world.specs.declared.limits.TheConstants.{MAX_EVENTS};
 ghost use Rattle.generator.specs.Courses.{HasRoom};
 ghost use Rattle.generated_runs.specs.Setup.{setup};
 ghost use Rattle.generated_runs.specs.Sights.{event_of};
-ghost use Rattle.generated_runs.specs.Runs.{next_in, next, next_event, generated, is_read, is_live, serial_step, with_answer};
-ghost use Rattle.workload.specs.Standing.{StandsAt, WorldStandsAt, IsNext, StopsBehind};
-ghost use Rattle.workload.specs.Stops.{StopsAt};
+ghost use Rattle.generated_runs.specs.Runs.{next_in, next, next_event, generated, is_read, is_live, serial_step, heard, with_answer};
+ghost use Rattle.workload.specs.Standing.{Took, StandsAt, WorldStandsAt, IsNext, StopsBehind};
+ghost use Rattle.workload.specs.Stops.{StopsAt, stop_of_run};
 
 use crate::events::event_of;
 use crate::plans::Plan;
@@ -20,7 +20,7 @@ use generator::{Course, Doing};
 use std::alloc::Global;
 use tcs_laws::VoteGuard;
 use tcs_terms::{Event, OutOfMemory};
-use world::World;
+use world::{Happening, Stop, World};
 
 /// An event that is to happen, and whether it reads for the transfer that is being collected.
 #[derive(Debug, Drop)]
@@ -51,6 +51,32 @@ fn choose<G: VoteGuard>(
     Ok(Next { event, reads })
 }
 
+/// Takes an event.
+fn take_step<G: VoteGuard>(world: &mut World<G>, event: Event) -> Result<Happening, Stop>
+    requires certifier { G.Rule.tests ≡ serial }
+    requires setup { world.old.setup ≡ setup }
+    requires fits { MayStand setup event }
+    requires few { events_of world.old.progress < MAX_EVENTS }
+    ensures took { IfOk result (λ told. Took world.old.progress event told world.new.progress) }
+    ensures setup { world.new.setup ≡ setup }
+    ensures lives { OnOk result (world.new.spent ≡ false) }
+    ensures stopped { IfErr result (λ stop. StopsAt (serial_step world.old.progress event).answer (stop_of_run stop)) }
+{
+    world.step(event)
+}
+
+/// A transfer hears what its reading noted, the last notes of the run.
+fn hear<G: VoteGuard>(course: &mut Course, world: &World<G>, reads: bool, notes: usize)
+    requires { notes ≤ length (world_of world.now.progress).history }
+    ensures { course.new ≡ record course.old {
+      transfer = heard reads (drop (length (world_of world.now.progress).history - notes) (world_of world.now.progress).history) course.old.transfer;
+    } }
+{
+    if reads {
+        course.take_notes(world.last_notes(notes));
+    }
+}
+
 /// Lets an event happen that was chosen.
 fn happen<G: VoteGuard>(
     course: &mut Course,
@@ -58,7 +84,6 @@ fn happen<G: VoteGuard>(
     next: Next,
 ) -> Result<(), GenStop>
     requires certifier { G.Rule.tests ≡ serial }
-    requires lives { world.old.spent ≡ false }
     requires setup { world.old.setup ≡ setup }
     requires fits { MayStand setup next.event }
     requires few { events_of world.old.progress < MAX_EVENTS }
@@ -70,11 +95,10 @@ fn happen<G: VoteGuard>(
     ensures stopped { IfErr result (StopsAt (serial_step world.old.progress next.event).answer) }
 {
     let before = world.messages();
-    let happening = world.step(next.event)?;
-    if next.reads {
-        course.take_notes(world.last_notes(happening.notes));
-    }
-    course.queue_sent(before, happening.sent as u32)?;
+    let told = take_step(world, next.event)?;
+    hear(course, world, next.reads, told.notes);
+    let sent = world.messages() - before;
+    course.queue_sent(before, sent)?;
     Ok(())
 }
 

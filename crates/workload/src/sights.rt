@@ -59,12 +59,10 @@ fn is_orphan<G: VoteGuard>(node: &Node<G>, row: &Row) -> bool
 fn first_orphan<G: VoteGuard>(node: &Node<G>) -> Option<TxId>
     ensures { result ≡ orphan_of (Some node.now.kept) }
 {
-    for row in node.rows() {
-        if is_orphan(node, row) {
-            return Some(row.entry.txn);
-        }
+    match node.rows().iter().find(|row| is_orphan(node, row)) {
+        None => None,
+        Some(row) => Some(row.entry.txn),
     }
-    None
 }
 
 /// The transaction that node 5 may take over.
