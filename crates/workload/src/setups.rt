@@ -1,5 +1,6 @@
 //! The setup of every generated schedule.
-ghost use Rattle.std.specs.Prelude.{◌≡◌, ◌<◌, ◌≤◌, IfOk};
+ghost use Rattle.std.specs.Prelude.{◌≡◌, ◌<◌, IfOk};
+ghost use Rattle.tcs_terms.specs.Places.{IsMembership};
 ghost use Rattle.generated_runs.specs.Setup.{config_of, setup};
 
 use std::alloc::Global;
@@ -7,7 +8,8 @@ use tcs_terms::{Config, OutOfMemory, Rule, Setup};
 
 /// The first configuration of a shard: its leader and the node behind it.
 fn config_of(shard: u8, leader: u8) -> Config
-    requires shards { shard ≡ 1 }
+    requires few { leader < 255 }
+    requires config { IsMembership (config_of shard leader) }
     ensures { result ≡ config_of shard leader }
 {
     Config::of(shard, 1, &[leader, leader + 1], leader, 0)
@@ -25,6 +27,6 @@ pub(crate) fn generated_setup(alloc: Global) -> Result<Setup, OutOfMemory>
     configs.push(config_of(3, 7))?;
     match Setup::build(Rule::Serial, 3, nodes, configs) {
         Ok(setup) => Ok(setup),
-        Err(_) => Err(OutOfMemory),
+        Err(_) => unreachable!(),
     }
 }

@@ -22,4 +22,4 @@ loop-note-preserved c =
 
 pub returns : goal.returns
 returns c =
-    c.len.ensures ∙ ap (λ (ks : List TxId). length ks) (c.loop-note.invariant ∙ ap (firsts begun_in) (take_all c.loop-note.note-index c.args.history.now (omega arith)))
+    c.len.ensures.len ∙ ap (λ (ks : List TxId). length ks) (c.loop-note.invariant ∙ ap (firsts begun_in) (take_all c.loop-note.note-index c.args.history.now (omega arith)))
