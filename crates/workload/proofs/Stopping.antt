@@ -14,7 +14,7 @@ use Rattle.generated_runs.proofs.Fitting.{fits}
 use Rattle.generated_runs.proofs.Promised.{kept, copied}
 use Rattle.workload.specs.declared.stops.GenStop.{GenStop}
 use Rattle.workload.specs.declared.stops.GenStop.TheVariants as stops
-use Rattle.workload.specs.Outcomes.{Kept, StopsFull, StopsWithin, Stopped}
+use Rattle.workload.specs.Outcomes.{Kept, Writes, StopsFull, StopsWithin, Stopped}
 use Rattle.workload.specs.Standing.{StopsBehind, StopsFrom}
 use Rattle.workload.specs.Stops.{stop_of_sink}
 use Rattle.workload.specs.Texts.{front_until, generated_text}
@@ -123,3 +123,29 @@ pub line_written : (seed count place : ℕ) (before piece : List ℕ) (held : Op
     → held ≡ Some ((before ++ front_until seed count place) ++ piece) → held ≡ Some (before ++ front_until seed count (suc place))
 line_written seed count place before piece held is h =
     h ∙ ap (λ (t : List ℕ). Some t) (append_assoc before (front_until seed count place) piece ∙ ap (λ (p : List ℕ). before ++ (front_until seed count place ++ p)) is ∙ ap (λ (t : List ℕ). before ++ t) (sym (front_on seed count place)))
+
+-- ---- the header
+
+first_within : (seed count : ℕ) → KeepsWithin seed count zero
+unfolding generated
+first_within seed count = refl
+
+pub nothing_written : (seed count : ℕ) (before : List ℕ) (held : Option (List ℕ)) → held ≡ Some before → StopsWithin seed count before held
+nothing_written seed count before held h =
+    record { place = zero; few = omega arith; within = first_within seed count; written = []; rest = front_until seed count zero; begins = inl refl; holds = h ∙ ap (λ (t : List ℕ). Some t) (sym (append-nil before)) }
+
+pub cut_header : (seed count : ℕ) (before piece : List ℕ) (held : Option (List ℕ)) (stop : SinkStop) → piece ≡ flat_map with_feed (setup_lines setup) → HoldsFront before piece held → Stopped seed count before held (stop_of_sink stop)
+cut_header seed count before piece held stop is h =
+    cut_line seed count zero before [] piece held stop (omega arith) (first_within seed count) (front_begins seed count ∙ sym is) (subst (λ (t : List ℕ). HoldsFront t piece held) (sym (append-nil before)) h)
+
+pub header_written : (seed count : ℕ) (before piece : List ℕ) (held : Option (List ℕ)) → piece ≡ flat_map with_feed (setup_lines setup) → held ≡ Some (before ++ piece) → held ≡ Some (before ++ front_until seed count zero)
+header_written seed count before piece held is h = h ∙ ap (λ (t : List ℕ). Some (before ++ t)) (is ∙ sym (front_begins seed count))
+
+-- ---- the whole text
+
+pub all_written : (seed count : ℕ) (before last : List ℕ) (held : Option (List ℕ)) → count ≤ 50000 → KeepsWithin seed count count → last ≡ 101 ∷ 110 ∷ 100 ∷ 10 ∷ [] → held ≡ Some ((before ++ front_until seed count count) ++ last)
+    → Writes seed count before held
+all_written seed count before last held most within is h = record {
+  kept = kept_at seed count count most within;
+  holds = h ∙ ap (λ (t : List ℕ). Some t) (append_assoc before (front_until seed count count) last ∙ ap (λ (t : List ℕ). before ++ t) (sym (front_ends seed count last is)));
+}

@@ -9,9 +9,8 @@ ghost use Rattle.workload.specs.Texts.{front_until};
 
 use crate::generations::{choose_next, happen_next};
 use crate::plans::Plan;
-use crate::setups::generated_setup;
+use crate::setups::generated_world;
 use crate::stops::GenStop;
-use conflict_index::SerialIndex;
 use generator::Course;
 use schedule_text::{print_event, print_setup};
 use std::alloc::Global;
@@ -47,16 +46,52 @@ pub fn generate<K: Sink>(
     ensures wrote { K.faults output.old ≤ K.faults output.new }
     ensures write_fault { IsErrOf result GenStop.WriteFault → Rose (K.faults output.old) (K.faults output.new) }
 {
-    let plan = Plan { seed, count };
-    let mut course = Course::first(alloc, seed);
-    let mut world = World::<SerialIndex>::new(alloc, generated_setup(alloc)?)?;
+    write_schedule(alloc, Plan { seed, count }, output)
+}
+
+/// Writes the header, and steps the run: what `generate` does.
+fn write_schedule<K: Sink>(alloc: Global, plan: Plan, output: &mut K) -> Result<(), GenStop>
+    requires most { plan.count ≤ 50000 }
+    ensures whole { (before : List ℕ) → K.held output.old ≡ Some before → OnOk result (Writes plan.seed plan.count before (K.held output.new)) }
+    ensures stopped { (before : List ℕ) → K.held output.old ≡ Some before → IfErr result (Stopped plan.seed plan.count before (K.held output.new)) }
+    ensures within { OnOk result (KeepsWithin plan.seed plan.count plan.count) }
+    ensures from { IfErr result (StopsFrom plan.seed plan.count) }
+    ensures wrote { K.faults output.old ≤ K.faults output.new }
+    ensures write_fault { IsErrOf result GenStop.WriteFault → Rose (K.faults output.old) (K.faults output.new) }
+{
+    let mut course = Course::first(alloc, plan.seed);
+    let mut world = generated_world(alloc)?;
     let mut text = Vec::new(alloc);
     print_setup(world.setup(), &mut text)?;
     write_all(output, &text)?;
-    write_events(alloc, plan, &mut course, &mut world, &mut text, output)?;
+    write_lines(alloc, plan, &mut course, &mut world, &mut text, output)
+}
+
+/// Writes the lines behind the header.
+fn write_lines<G: VoteGuard, K: Sink>(
+    alloc: Global,
+    plan: Plan,
+    course: &mut Course,
+    world: &mut World<G>,
+    text: &mut Vec<u8>,
+    output: &mut K,
+) -> Result<(), GenStop>
+    requires certifier { G.Rule.tests ≡ serial }
+    requires most { plan.count ≤ 50000 }
+    requires begins { StandsAt plan.seed plan.count zero course.old world.old }
+    ensures whole { (before : List ℕ) → K.held output.old ≡ Some (before ++ front_until plan.seed plan.count zero)
+        → OnOk result (Writes plan.seed plan.count before (K.held output.new)) }
+    ensures stopped { (before : List ℕ) → K.held output.old ≡ Some (before ++ front_until plan.seed plan.count zero)
+        → IfErr result (Stopped plan.seed plan.count before (K.held output.new)) }
+    ensures within { OnOk result (KeepsWithin plan.seed plan.count plan.count) }
+    ensures from { IfErr result (StopsFrom plan.seed plan.count) }
+    ensures wrote { K.faults output.old ≤ K.faults output.new }
+    ensures write_fault { IsErrOf result GenStop.WriteFault → Rose (K.faults output.old) (K.faults output.new) }
+{
+    write_events(alloc, plan, course, world, text, output)?;
     text.clear();
-    put(&mut text, b"end\n")?;
-    write_all(output, &text)?;
+    put(text, b"end\n")?;
+    write_all(output, text)?;
     Ok(())
 }
 

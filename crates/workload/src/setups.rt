@@ -1,10 +1,14 @@
 //! The setup of every generated schedule.
-ghost use Rattle.std.specs.Prelude.{◌≡◌, ◌<◌, IfOk};
+ghost use Rattle.std.specs.Prelude.{◌≡◌, ◌<◌, false, IfOk};
+ghost use Rattle.protocol.specs.Limit.Progress.{Live};
+ghost use Rattle.protocol.specs.World.{first_world};
 ghost use Rattle.tcs_terms.specs.Places.{IsMembership};
 ghost use Rattle.generated_runs.specs.Setup.{config_of, setup};
 
+use conflict_index::SerialIndex;
 use std::alloc::Global;
 use tcs_terms::{Config, OutOfMemory, Rule, Setup};
+use world::World;
 
 /// The first configuration of a shard: its leader and the node behind it.
 fn config_of(shard: u8, leader: u8) -> Config
@@ -16,7 +20,8 @@ fn config_of(shard: u8, leader: u8) -> Config
 }
 
 /// Three shards of three nodes each, under the serial rule.
-pub(crate) fn generated_setup(alloc: Global) -> Result<Setup, OutOfMemory>
+#[tactic(auto, unfolding(generated_runs::specs::Setup::setup))]
+fn generated_setup(alloc: Global) -> Result<Setup, OutOfMemory>
     ensures { IfOk result (λ s. s ≡ setup) }
 {
     let mut nodes = Vec::new(alloc);
@@ -29,4 +34,16 @@ pub(crate) fn generated_setup(alloc: Global) -> Result<Setup, OutOfMemory>
         Ok(setup) => Ok(setup),
         Err(_) => unreachable!(),
     }
+}
+
+/// The world of this setup before its first event.
+pub(crate) fn generated_world(alloc: Global) -> Result<World<SerialIndex>, OutOfMemory>
+    ensures { IfOk result (λ w. w ≡ record {
+      setup = setup;
+      progress = Live (first_world setup) 0 0;
+      spent = false;
+    }) }
+{
+    let setup = generated_setup(alloc)?;
+    World::new(alloc, setup)
 }

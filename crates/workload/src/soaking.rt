@@ -7,14 +7,13 @@ ghost use Rattle.world.specs.WorldState.{events_of};
 ghost use Rattle.generated_runs.specs.Runs.{KeepsWithin, IsFullAt};
 ghost use Rattle.workload.specs.Counts.{soak_text};
 ghost use Rattle.workload.specs.Outcomes.{Tells, SoakStopped, Stayed, WritesFully, StopsBy};
-ghost use Rattle.workload.specs.Standing.{StandsAt, RunStops};
+ghost use Rattle.workload.specs.Standing.{StandsAt, StopsFrom, RunStops};
 
 use crate::counts::{aborted_of, begun_of};
 use crate::generations::{choose_next, happen_next};
 use crate::plans::Plan;
-use crate::setups::generated_setup;
+use crate::setups::generated_world;
 use crate::stops::GenStop;
-use conflict_index::SerialIndex;
 use generator::Course;
 use std::alloc::Global;
 use tcs_io::{Sink, write_all};
@@ -45,9 +44,21 @@ pub fn soak<K: Sink>(alloc: Global, seed: u64, count: u32, output: &mut K) -> Re
     ensures wrote { K.faults output.old ≤ K.faults output.new }
     ensures write_fault { IsErrOf result GenStop.WriteFault → Rose (K.faults output.old) (K.faults output.new) }
 {
-    let plan = Plan { seed, count };
-    let mut course = Course::first(alloc, seed);
-    let mut world = World::<SerialIndex>::new(alloc, generated_setup(alloc)?)?;
+    write_counts(alloc, Plan { seed, count }, output)
+}
+
+/// Steps the run, and writes its counts: what `soak` does.
+fn write_counts<K: Sink>(alloc: Global, plan: Plan, output: &mut K) -> Result<(), GenStop>
+    requires most { plan.count ≤ 50000 }
+    ensures whole { (before : List ℕ) → K.held output.old ≡ Some before → OnOk result (Tells plan.seed plan.count before (K.held output.new)) }
+    ensures stopped { (before : List ℕ) → K.held output.old ≡ Some before → IfErr result (SoakStopped plan.seed plan.count before (K.held output.new)) }
+    ensures within { OnOk result (KeepsWithin plan.seed plan.count plan.count) }
+    ensures from { IfErr result (StopsFrom plan.seed plan.count) }
+    ensures wrote { K.faults output.old ≤ K.faults output.new }
+    ensures write_fault { IsErrOf result GenStop.WriteFault → Rose (K.faults output.old) (K.faults output.new) }
+{
+    let mut course = Course::first(alloc, plan.seed);
+    let mut world = generated_world(alloc)?;
     run_events(alloc, plan, &mut course, &mut world)?;
     let text = soak_text(alloc, &world)?;
     write_all(output, &text)?;
