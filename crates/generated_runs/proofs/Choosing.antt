@@ -84,7 +84,7 @@ pub record Stands (h : List Note) (x : Chosen) : Type 0 where
   pub seen : Seen h x.course.transfer
   pub fair : IsFair h x.doing x.course.transfer
 
-if_both : {A : Type 0} (P : A → Type 0) (b : Bool) {x y : A} → P x → P y → P (if b then x else y)
+pub if_both : {A : Type 0} (P : A → Type 0) (b : Bool) {x y : A} → P x → P y → P (if b then x else y)
 if_both P true p q = p
 if_both P false p q = q
 
@@ -121,7 +121,7 @@ abbrev pub IsFixed : Option Doing → Type 0
 IsFixed None = Unit {0}
 IsFixed (Some doing) = (h : List Note) (t : Transfer) → IsFair h doing t
 
-fixed-each : (P : Option Doing → Type 0) (count place : ℕ) → P (Some doings.Stop) → P (Some doings.FirstMove) → P (Some doings.TakeOver) → P (Some doings.SecondMove) → P None → P (fixed_at count place)
+pub fixed-each : (P : Option Doing → Type 0) (count place : ℕ) → P (Some doings.Stop) → P (Some doings.FirstMove) → P (Some doings.TakeOver) → P (Some doings.SecondMove) → P None → P (fixed_at count place)
 fixed-each P count place stop first taken second none =
     if_both P (place == count / 3) stop (if_both P (place == count / 3 + 1) first (if_both P (place == count / 2) taken (if_both P (place == 2 * count / 3) second none)))
 

@@ -1,5 +1,5 @@
 -- Reads are honest in every generated run.
-use Rattle.std.proofs.Common.{◌≡◌, ℕ, zero, suc, ◌+◌, Bool, true, false, nat_lt, ◌==◌, List, [], ◌∷◌, ◌++◌, length, eq-eqb, Option, Some, None, ◌⊎◌, inl, inr, refl, sym, ◌∙◌, subst, append-nil, append_assoc}
+use Rattle.std.proofs.Common.{◌≡◌, ℕ, zero, suc, ◌+◌, Bool, true, false, nat_lt, ◌==◌, List, [], ◌∷◌, ◌++◌, length, eq-eqb, ◌⊎◌, inl, inr, refl, sym, ◌∙◌, subst, append-nil, append_assoc}
 use Rattle.std.specs.List.{list_all, list_any}
 use Rattle.std.proofs.lemmas.Bool.{and_from, or_left, or_right}
 use Rattle.std.proofs.lemmas.List.Folds.{list_any-append}
@@ -10,13 +10,12 @@ use Rattle.tcs_terms.specs.declared.inputs.Event.TheVariants.{Call}
 use Rattle.tcs_terms.specs.declared.inputs.Input.TheVariants as inputs
 use Rattle.tcs_terms.specs.declared.inputs.Note.{Note}
 use Rattle.tcs_terms.specs.declared.inputs.Note.TheVariants as notes
-use Rattle.tcs_terms.specs.declared.ids.TxId.{TxId}
 use Rattle.tcs_terms.specs.Payloads.{Accesses, same_name}
 use Rattle.protocol.specs.Limit.{Progress, Step, frame_bytes, frame_limit}
 use Rattle.protocol.specs.Limit.Progress.{Live, Ended}
 use Rattle.protocol.specs.OneCopy.{is_honest, honest_after, tells_version}
 use Rattle.protocol.specs.Past.{after_past}
-use Rattle.protocol.specs.World.{World, first_world, node_of, world_step}
+use Rattle.protocol.specs.World.{World, first_world, world_step}
 use Rattle.protocol.specs.Limit.{limited_step}
 use Rattle.protocol_laws.specs.Promises.{world_of}
 use Rattle.protocol_laws.proofs.Guards.{by_guard}
@@ -29,8 +28,9 @@ use Rattle.generator.specs.declared.doings.Doing.{Doing}
 use Rattle.generator.specs.declared.doings.Doing.TheVariants as doings
 use Rattle.generator.specs.Accounts.{account_name}
 use Rattle.generator.specs.Courses.{CourseState, with_note, with_notes, with_reading, reading}
-use Rattle.generated_runs.specs.Sights.{event_of, waits_in, reader_in, taken_over, orphan_of}
+use Rattle.generated_runs.specs.Sights.{event_of, waits_in, reader_in}
 use Rattle.generated_runs.specs.Runs.{State, next, next_event, serial_step, is_read, heard, with_answer, after, generated}
+use Rattle.generated_runs.proofs.Doings.{hands_in}
 use Rattle.generated_runs.proofs.Noting.{NotedAt, OneAt, event_notes}
 use Rattle.generated_runs.proofs.Choosing.{WasRead, Seen, IsHonest, IsFair, Asks, chosen_stands}
 
@@ -69,20 +69,9 @@ read_now h account name version value e =
 
 -- ---- what was done is told by the event
 
-not_taken : (txn : Option TxId) (node : ℕ) (p : Accesses) → taken_over txn ≡ Call node (inputs.Certify p) → ⊥
-not_taken None node p e = cc e
-not_taken (Some txn) node p e = cc e
-
 -- an event that hands in a payload does what was to be done
 begun_fairly : (h : List Note) (w : World) (doing : Doing) (t : Transfer) (node : ℕ) (p : Accesses) → IsFair h doing t → event_of w doing ≡ Call node (inputs.Certify p) → IsHonest h p
-begun_fairly h w doings.Stop t node p f e = absurd (cc e)
-begun_fairly h w doings.FirstMove t node p f e = absurd (cc e)
-begun_fairly h w doings.TakeOver t node p f e = absurd (not_taken (orphan_of (node_of w.nodes 5)) node p e)
-begun_fairly h w doings.SecondMove t node p f e = absurd (cc e)
-begun_fairly h w doings.Nudge t node p f e = absurd (cc e)
-begun_fairly h w (doings.Deliver number) t node p f e = absurd (cc e)
-begun_fairly h w (doings.Read name) t node p f e = absurd (cc e)
-begun_fairly h w (doings.Certify payload) t node p f e = let same : payload ≡ p = cc e in subst (IsHonest h) same f
+begun_fairly h w doing t node p f e = subst (λ (d : Doing). IsFair h d t) (hands_in w doing node p e) f
 
 fair_note : (h : List Note) (w : World) (doing : Doing) (t : Transfer) (event : Event) (n : Note) → event ≡ event_of w doing → IsFair h doing t → NotedAt event n → honest_after h n ≡ true
 fair_note h w doing t event (notes.Begin txn payload) e f at = begun_fairly h w doing t at.0 payload f (sym e ∙ at.1)

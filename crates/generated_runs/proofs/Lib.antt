@@ -1,6 +1,10 @@
 pub mod Noting
 pub mod Choosing
+pub mod Wellness
+pub mod Known
+pub mod Doings
 pub mod Events
 pub mod Honest
 pub mod Promised
 pub mod Queued
+pub mod Fitting

@@ -137,3 +137,10 @@ IsTransfer Idle = Unit {0}
 IsTransfer (Begun from to) = AreAccounts from to
 IsTransfer (Half from to) = AreAccounts from.account to
 IsTransfer (Whole from to) = AreAccounts from.account to.account
+
+-- above the versions that a transfer read stands another
+abbrev pub HasRoom : Transfer → Type 0
+HasRoom Idle = Unit {0}
+HasRoom (Begun from to) = Unit {0}
+HasRoom (Half from to) = Unit {0}
+HasRoom (Whole from to) = (from.version < 18446744073709551615) × (to.version < 18446744073709551615)

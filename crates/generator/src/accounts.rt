@@ -1,5 +1,6 @@
 //! Ten accounts, and the payload that moves an amount from one to another.
-ghost use Rattle.std.specs.Prelude.{◌≡◌, ◌<◌, ◌≤◌, ◌-◌, ◌+◌, ◌%◌, ◌^◌, IfOk};
+ghost use Rattle.std.specs.Prelude.{◌≡◌, ◌<◌, ◌≤◌, ◌-◌, ◌+◌, ◌%◌, ◌^◌, ◌==◌, false, IfOk, IfErr};
+ghost use Rattle.store_client.specs.declared.faults.SessionFault.TheVariants.{OutOfMemory as no_memory};
 ghost use Rattle.generator.specs.Accounts.{account_name, balance_bytes, balance_of, amount_of, with_byte, transfer_payload};
 
 use std::alloc::Global;
@@ -61,7 +62,8 @@ fn amount_of(balance: u64, word: u32) -> u64
     if balance < amount { 0 } else { amount }
 }
 
-/// The payload of a session that was given both readings in their order, and moves the amount that a word names.
+/// The payload of a session that was given both readings in their order, and moves the amount that a word names. Two
+/// accounts are read, at versions that leave one above them, so the session refuses nothing: memory alone can lack.
 pub(crate) fn transfer_payload(
     alloc: Global,
     from: Reading,
@@ -70,7 +72,11 @@ pub(crate) fn transfer_payload(
 ) -> Result<Payload, SessionFault>
     requires from { from.account < 10 }
     requires to { to.account < 10 }
-    ensures { IfOk result (λ payload. payload ≡ transfer_payload from to word) }
+    requires others { (from.account == to.account) ≡ false }
+    requires from_room { from.version < 18446744073709551615 }
+    requires to_room { to.version < 18446744073709551615 }
+    ensures payload { IfOk result (λ payload. payload ≡ transfer_payload from to word) }
+    ensures memory { IfErr result (λ fault. fault ≡ no_memory) }
 {
     let balance = balance_of(&from.value);
     let amount = amount_of(balance, word);

@@ -1,7 +1,7 @@
 //! What the generator keeps beside the run.
-ghost use Rattle.std.specs.Prelude.{◌≡◌, ◌+◌, ◌<◌, ◌≤◌, ◌++◌, ℕ, length, [], IfOk, OnOk};
+ghost use Rattle.std.specs.Prelude.{◌≡◌, ◌+◌, ◌<◌, ◌≤◌, ◌++◌, ◌==◌, ℕ, length, [], false, IfOk, OnOk};
 ghost use Rattle.rand_pcg.specs.Lcg.{Lcg};
-ghost use Rattle.generator.specs.Courses.{first_course, chosen, fixed_or, with_word, by_word, goes_on, begins, moves, delivers_first, delivers_second, with_notes, numbers_behind};
+ghost use Rattle.generator.specs.Courses.{first_course, chosen, fixed_or, with_word, by_word, goes_on, begins, moves, delivers_first, delivers_second, with_notes, numbers_behind, HasRoom};
 ghost use Rattle.generator.specs.Words.{word, later};
 
 use crate::accounts::{Reading, account_name, transfer_payload};
@@ -13,6 +13,7 @@ use std::alloc::Global;
 use std::collections::VecDeque;
 use std::marker::Model;
 use std::mem;
+use store_client::SessionFault;
 use tcs_terms::{Note, OutOfMemory};
 
 /// What the generator keeps beside the run: the words that are left, the numbers of messages that were sent and not yet
@@ -60,6 +61,7 @@ impl Course {
     ) -> Result<Doing, OutOfMemory>
         requires count { count ≤ 50000 }
         requires sent { 0 < length self.old.queue → 0 < sent }
+        requires room { HasRoom self.old.transfer }
         ensures doing { IfOk result (λ doing. doing ≡ (chosen count place waits sent self.old).doing) }
         ensures course { OnOk result (self.new ≡ (chosen count place waits sent self.old).course) }
     {
@@ -72,6 +74,7 @@ impl Course {
     /// What the next word lets happen.
     fn choose_by_word(&mut self, waits: bool, sent: u32) -> Result<Doing, OutOfMemory>
         requires sent { 0 < length self.old.queue → 0 < sent }
+        requires room { HasRoom self.old.transfer }
         ensures doing { IfOk result (λ doing. doing ≡ (with_word waits sent self.old).doing) }
         ensures course { OnOk result (self.new ≡ (with_word waits sent self.old).course) }
     {
@@ -92,6 +95,7 @@ impl Course {
 
     /// The next step of a transfer.
     fn go_on(&mut self) -> Result<Doing, OutOfMemory>
+        requires room { HasRoom self.old.transfer }
         ensures doing { IfOk result (λ doing. doing ≡ (goes_on self.old self.old.transfer).doing) }
         ensures course { OnOk result (self.new ≡ (goes_on self.old self.old.transfer).course) }
     {
@@ -124,6 +128,9 @@ impl Course {
     fn finish(&mut self, from: Reading, to: Reading) -> Result<Doing, OutOfMemory>
         requires first { from.account < 10 }
         requires second { to.account < 10 }
+        requires others { (from.account == to.account) ≡ false }
+        requires from_room { from.version < 18446744073709551615 }
+        requires to_room { to.version < 18446744073709551615 }
         requires idle { self.old.transfer ≡ Transfer.Idle }
         ensures doing { IfOk result (λ doing. doing ≡ (moves self.old from to).doing) }
         ensures course { OnOk result (self.new ≡ (moves self.old from to).course) }
@@ -131,7 +138,8 @@ impl Course {
         let word = self.draw();
         match transfer_payload(self.alloc, from, to, word) {
             Ok(payload) => Ok(Doing::Certify(payload)),
-            Err(_) => Err(OutOfMemory),
+            Err(SessionFault::OutOfMemory) => Err(OutOfMemory),
+            Err(_) => unreachable!(),
         }
     }
 
