@@ -2,7 +2,6 @@
 use Rattle.std.proofs.Common.{◌≡◌, ℕ, zero, suc, ◌+◌, ◌-◌, ◌<◌, ◌≤◌, true, false, nat_lt, Option, Some, List, [], ◌++◌, take, drop, Result, Ok, Err, ◌⊎◌, inl, inr, refl, sym, subst, ap, ◌∙◌, arith, append-nil}
 use Rattle.std.specs.Prelude.{OnOk, IfErr, IsErrOf}
 use Rattle.std.proofs.lemmas.List.{take-append-drop}
-use Rattle.std.proofs.Math.Nat.{eq-or-lt_of_le}
 use Rattle.cert_serial.specs.Serial.{serial}
 use Rattle.tcs_io.specs.Bytes.{HoldsFront}
 use Rattle.tcs_io.specs.Faults.{Rose}
@@ -20,8 +19,11 @@ use Rattle.workload.specs.declared.stops.GenStop.{GenStop}
 use Rattle.workload.specs.declared.stops.GenStop.TheVariants as stops
 use Rattle.workload.specs.Counts.{soak_text}
 use Rattle.workload.specs.Outcomes.{Stayed, WritesFully, StopsBy, Tells, TellsFront, SoakStopped}
-use Rattle.workload.specs.Standing.{RunStops, StopsFrom}
+use Rattle.workload.specs.Standing.{RunStops, StopsFrom, WorldStandsAt}
 use Rattle.workload.specs.Stops.{stop_of_sink}
+use Rattle.world.specs.WorldState.{WorldState, events_of}
+use Rattle.workload.proofs.Steps.{events_are}
+use Rattle.workload.proofs.Stopping.{kept_at}
 
 -- ---- a run that passed the limit
 
@@ -38,7 +40,7 @@ live_before (Ended w count bytes) event live = absurd (cc live)
 
 within_before : (seed count place more : ℕ) → KeepsWithin seed count (more + place) → KeepsWithin seed count place
 unfolding generated
-within_before seed count place zero within = within
+within_before seed count place zero within = let none : 0 + place ≡ place = omega arith in subst (KeepsWithin seed count) none within
 within_before seed count place (suc more) within =
     within_before seed count place more (live_before (generated seed count (more + place)).progress (next_event count (suc (more + place)) (generated seed count (more + place))) within)
 
@@ -118,3 +120,14 @@ counts_cut seed count before piece held stop within is h = by_stop stop where
   by_stop : (stop : SinkStop) → SoakStopped seed count before held (stop_of_sink stop)
   by_stop sinks.Failed = cut
   by_stop sinks.OutOfMemory = cut
+
+pub counts_are : (seed count : ℕ) (world : WorldState) (piece : List ℕ) → WorldStandsAt seed count count world → piece ≡ soak_text (events_of world.progress) (world_of world.progress)
+    → piece ≡ soak_text count (world_of (generated seed count count).progress)
+counts_are seed count world piece s is =
+    is ∙ ap (λ (p : Progress). soak_text (events_of p) (world_of p)) s.run_is
+    ∙ ap (λ (n : ℕ). soak_text n (world_of (generated seed count count).progress)) (events_are seed count count s.within)
+
+pub counts_told : (seed count : ℕ) (before piece : List ℕ) (held : Option (List ℕ)) → count ≤ 50000 → KeepsWithin seed count count → piece ≡ soak_text count (world_of (generated seed count count).progress) → held ≡ Some (before ++ piece)
+    → Tells seed count before held
+counts_told seed count before piece held most within is h =
+    record { kept = kept_at seed count count most within; holds = h ∙ ap (λ (t : List ℕ). Some (before ++ t)) is }
