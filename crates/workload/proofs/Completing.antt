@@ -38,11 +38,19 @@ unfolding serial_step limited_step
 live_before (Live w count bytes) event live = refl
 live_before (Ended w count bytes) event live = absurd (cc live)
 
-within_before : (seed count place more : ℕ) → KeepsWithin seed count (more + place) → KeepsWithin seed count place
+one_before : (seed count place : ℕ) → KeepsWithin seed count (suc place) → KeepsWithin seed count place
 unfolding generated
+one_before seed count place within = live_before (generated seed count place).progress (next_event count (suc place) (generated seed count place)) within
+
+one_before : (seed count place : ℕ) → KeepsWithin seed count (suc place) → KeepsWithin seed count place
+unfolding generated
+one_before seed count place within = live_before (generated seed count place).progress (next_event count (suc place) (generated seed count place)) within
+
+within_before : (seed count place more : ℕ) → KeepsWithin seed count (more + place) → KeepsWithin seed count place
 within_before seed count place zero within = let none : 0 + place ≡ place = omega arith in subst (KeepsWithin seed count) none within
 within_before seed count place (suc more) within =
-    within_before seed count place more (live_before (generated seed count (more + place)).progress (next_event count (suc (more + place)) (generated seed count (more + place))) within)
+    let last : suc more + place ≡ suc (more + place) = omega arith in
+    within_before seed count place more (one_before seed count (more + place) (subst (KeepsWithin seed count) last within))
 
 within_at : (seed count place last : ℕ) → place ≤ last → KeepsWithin seed count last → KeepsWithin seed count place
 within_at seed count place last few within =
