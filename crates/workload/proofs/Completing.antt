@@ -1,5 +1,5 @@
 -- Which answer comes, where no fault was counted.
-use Rattle.std.proofs.Common.{◌≡◌, ℕ, zero, suc, ◌+◌, ◌-◌, ◌<◌, ◌≤◌, true, false, nat_lt, Option, Some, List, [], ◌++◌, take, drop, Result, Ok, Err, ◌⊎◌, inl, inr, refl, sym, subst, ap, ◌∙◌, arith, append-nil}
+use Rattle.std.proofs.Common.{◌≡◌, ℕ, zero, suc, ◌+◌, ◌-◌, ◌<◌, ◌≤◌, true, nat_lt, Option, Some, List, [], ◌++◌, take, drop, Result, Ok, Err, ◌⊎◌, inl, inr, refl, sym, subst, ap, ◌∙◌, arith, append-nil}
 use Rattle.std.specs.Prelude.{OnOk, IfErr, IsErrOf}
 use Rattle.std.proofs.lemmas.List.{take-append-drop}
 use Rattle.cert_serial.specs.Serial.{serial}
@@ -8,7 +8,7 @@ use Rattle.tcs_io.specs.Faults.{Rose}
 use Rattle.tcs_io.specs.declared.writing.SinkStop.{SinkStop}
 use Rattle.tcs_io.specs.declared.writing.SinkStop.TheVariants as sinks
 use Rattle.tcs_terms.specs.declared.inputs.Event.{Event}
-use Rattle.protocol.specs.Limit.{Progress, Step, Answer, frame_bytes, frame_limit, limited_step}
+use Rattle.protocol.specs.Limit.{Progress, Step, frame_bytes, frame_limit, limited_step}
 use Rattle.protocol.specs.Limit.Progress.{Live, Ended}
 use Rattle.protocol.specs.Limit.Answer.{SoupFull}
 use Rattle.protocol.specs.World.{world_step}
@@ -37,10 +37,6 @@ live_before : (p : Progress) (event : Event) → is_live (serial_step p event).a
 unfolding serial_step limited_step
 live_before (Live w count bytes) event live = refl
 live_before (Ended w count bytes) event live = absurd (cc live)
-
-one_before : (seed count place : ℕ) → KeepsWithin seed count (suc place) → KeepsWithin seed count place
-unfolding generated
-one_before seed count place within = live_before (generated seed count place).progress (next_event count (suc place) (generated seed count place)) within
 
 one_before : (seed count place : ℕ) → KeepsWithin seed count (suc place) → KeepsWithin seed count place
 unfolding generated

@@ -14,7 +14,7 @@ use Rattle.world.specs.WorldState.{WorldState, events_of}
 use Rattle.world.specs.declared.limits.TheConstants.{MAX_EVENTS}
 use Rattle.generator.specs.Courses.{CourseState, HasRoom, first_course}
 use Rattle.generated_runs.specs.Setup.{setup}
-use Rattle.generated_runs.specs.Runs.{generated, events_until, next, next_event, next_step, serial_step, is_read, is_live, with_answer, KeepsWithin}
+use Rattle.generated_runs.specs.Runs.{generated, events_until, next, next_event, serial_step, is_read, is_live, with_answer, KeepsWithin}
 use Rattle.generated_runs.proofs.Events.{run_is}
 use Rattle.generated_runs.proofs.Fitting.{is_ready, has_room}
 use Rattle.generated_runs.proofs.Queued.{always_sent}
