@@ -1,6 +1,5 @@
 -- The setup of generated schedules, in its parts.
-use Rattle.std.proofs.Common.{◌≡◌, [], ◌∷◌, sym, subst, zero-lt-suc, suc-le-suc, arith, Result, Ok, Err}
-use Rattle.std.specs.Prelude.{IsOk, ◌↔◌}
+use Rattle.std.proofs.Common.{arith}
 use Rattle.tcs_terms.specs.Places.{IsMembership}
 use Rattle.generated_runs.specs.Setup.{setup, config_of}
 use Rattle.generated_runs.proofs.Doings.{setup_is}

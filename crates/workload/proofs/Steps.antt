@@ -1,19 +1,20 @@
 -- What the definition's run says where the program's stands, and how one event more brings both on.
-use Rattle.std.proofs.Common.{◌≡◌, ℕ, zero, suc, ◌+◌, ◌<◌, ◌≤◌, Bool, true, false, List, [], ◌∷◌, ◌++◌, length, length-append, Result, Ok, Err, refl, sym, subst, ◌∙◌, arith}
+use Rattle.std.proofs.Common.{◌≡◌, ℕ, zero, suc, ◌+◌, ◌<◌, ◌≤◌, Bool, true, false, List, [], ◌∷◌, ◌++◌, length, length-append, Result, Ok, Err, refl, sym, subst, ap, ◌∙◌, arith}
 use Rattle.std.specs.Prelude.{OnOk}
 use Rattle.cert_serial.specs.Serial.{serial}
 use Rattle.tcs_terms.specs.declared.inputs.Event.{Event}
 use Rattle.tcs_terms.specs.Runs.{MayStand}
 use Rattle.protocol.specs.Limit.{Progress, limited_run}
 use Rattle.protocol.specs.Limit.Progress.{Live, Ended}
+use Rattle.protocol.specs.World.{first_world}
 use Rattle.protocol_laws.specs.Growth.{CountsHold}
 use Rattle.protocol_laws.specs.Promises.{world_of}
 use Rattle.protocol_laws.proofs.RunsOn.{run-counted}
 use Rattle.world.specs.WorldState.{WorldState, events_of}
 use Rattle.world.specs.declared.limits.TheConstants.{MAX_EVENTS}
-use Rattle.generator.specs.Courses.{CourseState, HasRoom}
+use Rattle.generator.specs.Courses.{CourseState, HasRoom, first_course}
 use Rattle.generated_runs.specs.Setup.{setup}
-use Rattle.generated_runs.specs.Runs.{generated, events_until, next, next_event, next_step, serial_step, is_read, is_live, with_answer, KeepsWithin}
+use Rattle.generated_runs.specs.Runs.{generated, events_until, next, next_event, serial_step, is_read, is_live, with_answer, KeepsWithin}
 use Rattle.generated_runs.proofs.Events.{run_is}
 use Rattle.generated_runs.proofs.Fitting.{is_ready, has_room}
 use Rattle.generated_runs.proofs.Queued.{always_sent}
@@ -56,6 +57,15 @@ pub few_before : (seed count place : ℕ) (world : WorldState) → place < count
 few_before seed count place world less most s =
     let are : events_of (generated seed count place).progress ≡ place = events_are seed count place s.within in
     subst (λ (p : Progress). events_of p < MAX_EVENTS) (sym s.run_is) (omega (arith, are, less, most))
+
+-- before the first event
+pub stands_first : (seed count : ℕ) (course : CourseState) (world : WorldState) → course ≡ first_course seed → world ≡ record { setup = setup; progress = Live (first_world setup) 0 0; spent = false }
+    → StandsAt seed count zero course world
+unfolding generated
+stands_first seed count course world c w = record {
+  course_is = c;
+  world_is = record { run_is = ap (λ (x : WorldState). x.progress) w; setup_is = ap (λ (x : WorldState). x.setup) w; lives = ap (λ (x : WorldState). x.spent) w; within = refl };
+}
 
 -- ---- one event more
 

@@ -1,6 +1,5 @@
 -- What the sink holds where a generated schedule is written, and where that stops.
-use Rattle.std.proofs.Common.{◌≡◌, ℕ, zero, suc, ◌+◌, ◌<◌, ◌≤◌, List, [], ◌∷◌, ◌++◌, map, take, drop, Option, Some, Result, Ok, Err, inl, inr, refl, sym, subst, ap, ◌∙◌, arith, append-nil, append_assoc}
-use Rattle.std.specs.Prelude.{OnOk, IfErr}
+use Rattle.std.proofs.Common.{◌≡◌, ℕ, zero, suc, ◌+◌, ◌<◌, ◌≤◌, List, [], ◌∷◌, ◌++◌, map, take, drop, Option, Some, inl, inr, refl, sym, subst, ap, ◌∙◌, arith, append-nil, append_assoc}
 use Rattle.std.specs.List.{flat_map}
 use Rattle.std.proofs.lemmas.List.{take-append-drop}
 use Rattle.tcs_io.specs.Bytes.{HoldsFront}
@@ -9,12 +8,12 @@ use Rattle.tcs_io.specs.declared.writing.SinkStop.TheVariants as sinks
 use Rattle.tcs_terms.specs.declared.inputs.Event.{Event}
 use Rattle.schedule_text.specs.Text.{setup_lines, with_feed, event_line}
 use Rattle.generated_runs.specs.Setup.{setup}
-use Rattle.generated_runs.specs.Runs.{generated, events_until, next_event, KeepsWithin, IsFullAt}
+use Rattle.generated_runs.specs.Runs.{generated, events_until, next_event, KeepsWithin}
 use Rattle.generated_runs.proofs.Fitting.{fits}
 use Rattle.generated_runs.proofs.Promised.{kept, copied}
 use Rattle.workload.specs.declared.stops.GenStop.{GenStop}
 use Rattle.workload.specs.declared.stops.GenStop.TheVariants as stops
-use Rattle.workload.specs.Outcomes.{Kept, Writes, StopsFull, StopsWithin, Stopped}
+use Rattle.workload.specs.Outcomes.{Kept, Writes, StopsWithin, Stopped}
 use Rattle.workload.specs.Standing.{StopsBehind, StopsFrom}
 use Rattle.workload.specs.Stops.{stop_of_sink}
 use Rattle.workload.specs.Texts.{front_until, generated_text}

@@ -1,5 +1,5 @@
 -- The text of a generated schedule.
-use Rattle.std.specs.Prelude.{◌≡◌, ℕ, ◌≤◌, List, [], ◌++◌, map, Option, Some}
+use Rattle.std.specs.Prelude.{ℕ, List, ◌++◌, map}
 use Rattle.std.specs.List.{flat_map}
 use Rattle.schedule_text.specs.Text.{setup_lines, with_feed, event_line, schedule_text}
 use Rattle.generated_runs.specs.Setup.{setup}
