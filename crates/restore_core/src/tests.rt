@@ -84,11 +84,7 @@ fn a_line_may_be_longer_than_that_of_a_schedule(rt: HostRuntime) -> Result<(), F
             call.push('x')?;
         }
         let file = format!(in alloc; "backup 1 a c\ndid {call}\ncut -\nend 0\n")?;
-        assert_eq!(rt;
-            told(alloc, file.as_str())?.as_str(),
-            wanted,
-            "{bytes}"
-        );
+        assert_eq!(rt; told(alloc, file.as_str())?.as_str(), wanted, "{bytes}");
     }
     Ok(())
 }
