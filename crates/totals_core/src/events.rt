@@ -28,16 +28,19 @@ pub(crate) fn run_events<G: VoteGuard, S: Source>(
     input: &mut S,
 ) -> Result<(), ReplayStop>
     requires lives { world.old.spent ≡ false }
-    requires begun { (is : List Item) × StandsBegun G.Rule.tests places.Events reading.old world.old.setup world.old.progress is }
+    requires begun { (is : List Item)
+        × StandsBegun G.Rule.tests places.Events reading.old world.old.setup world.old.progress is }
     requires many { 2 ≤ reading.old.number }
     requires commute { reading.old.reader.head.setup.rule ≡ rules.Commute }
-    ensures whole { (is : List Item) → StandsBegun G.Rule.tests places.Events reading.old world.old.setup world.old.progress is
+    ensures whole { (is : List Item)
+        → StandsBegun G.Rule.tests places.Events reading.old world.old.setup world.old.progress is
         → (bytes : List ℕ) → HasRead bytes reading.old (S.left input.old) is
         → OnOk result (HasRun bytes (S.left input.new) world.new.setup world.new.progress) }
     ensures lives { OnOk result (world.new.spent ≡ false) }
     ensures countable { OnOk result (IsCountable (world_of world.new.progress)) }
     ensures some { OnOk result (1 ≤ world.new.setup.shards) }
-    ensures stopped { (is : List Item) → StandsBegun G.Rule.tests places.Events reading.old world.old.setup world.old.progress is
+    ensures stopped { (is : List Item)
+        → StandsBegun G.Rule.tests places.Events reading.old world.old.setup world.old.progress is
         → (bytes : List ℕ) → HasRead bytes reading.old (S.left input.old) is
         → IfErr result (StopsNow bytes (S.left input.new)) }
     ensures count { S.faults input.old ≤ S.faults input.new }

@@ -41,8 +41,8 @@ pub fn totals<S: Source, K: Sink>(
     // Which answer comes, where no fault was counted.
     ensures complete { (bytes before : List ℕ) → S.left input.old ≡ Some bytes → K.held output.old ≡ Some before
         → Stayed (S.faults input.old) (S.faults input.new) → Stayed (K.faults output.old) (K.faults output.new)
-        → (d : Deployment) (es : List Event) → IsText bytes d es → d.rule ≡ rules.Commute → IsTrue (is_live (run_of d es))
-        → ReplaysFully result }
+        → (d : Deployment) (es : List Event) → IsText bytes d es → d.rule ≡ rules.Commute
+        → IsTrue (is_live (run_of d es)) → ReplaysFully result }
     ensures other { (bytes before : List ℕ) → S.left input.old ≡ Some bytes → K.held output.old ≡ Some before
         → Stayed (S.faults input.old) (S.faults input.new) → Stayed (K.faults output.old) (K.faults output.new)
         → NamesOther bytes → StopsBy (ReplayStop.Bad 2 reasons.Word) result }
