@@ -49,7 +49,7 @@ setup_is = record {
   one_each = refl;
   first = refl;
   configs = All-cons IsMembership (config_of 1 1) (config_of 2 4 ∷ config_of 3 7 ∷ []) first_config
-  (All-cons IsMembership (config_of 2 4) (config_of 3 7 ∷ []) second_config (All-cons IsMembership (config_of 3 7) [] third_config (All-nil IsMembership)));
+      (All-cons IsMembership (config_of 2 4) (config_of 3 7 ∷ []) second_config (All-cons IsMembership (config_of 3 7) [] third_config (All-nil IsMembership)));
 }
 
 -- ---- what may stand

@@ -152,8 +152,8 @@ stands_stepped place (Live w count bytes) event doing c e is k b =
     record {
       kept = record {
         numbers = subst (λ n. AllByRecursion (IsNumber n) (c.queue ++ numbers_behind (length w.messages) (length h.sent))) (sym sent)
-        (each-joined (IsNumber (length w.messages + length h.sent)) c.queue (numbers_behind (length w.messages) (length h.sent)) (numbers_up_to (length w.messages) (length h.sent) c.queue k.numbers)
-        (numbers_from (length w.messages + length h.sent) (length w.messages + 1) (length h.sent) (omega arith) (omega arith)));
+            (each-joined (IsNumber (length w.messages + length h.sent)) c.queue (numbers_behind (length w.messages) (length h.sent)) (numbers_up_to (length w.messages) (length h.sent) c.queue k.numbers)
+            (numbers_from (length w.messages + length h.sent) (length w.messages + 1) (length h.sent) (omega arith) (omega arith)));
         accounts = heard_keeps (is_read doing) h.notes c.transfer k.accounts;
       };
       begun = subst (BegunUpTo (suc place)) (sym adds.history) (begun_more place (length w.messages) w doing event h.notes e is b (event_notes serial 1 w event));
