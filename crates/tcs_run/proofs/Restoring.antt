@@ -1,5 +1,5 @@
 -- The statuses that answers to a backup file are told by.
-use Rattle.std.proofs.Common.{◌≡◌, Err, inl, inr, refl, sym, subst}
+use Rattle.std.proofs.Common.{Err, inl, inr, refl, sym, subst}
 use Rattle.restore_core.specs.declared.stops.RestoreStop.{RestoreStop}
 use Rattle.restore_core.specs.declared.stops.RestoreStop.TheVariants.{BadBackup, ReadFault, WriteFault, OutOfMemory}
 use Rattle.restore_core.specs.Files.{Answer, Restores, BadLine}

@@ -30,8 +30,8 @@ returns-in-None-clause-soaks g c = λ numbers named. absurd (no_command (Soak nu
 
 pub returns-in-None-clause-seeded : goal.returns-in-None-clause-seeded
 returns-in-None-clause-seeded g c = λ numbers either. elim either [
-  inl named ↦ absurd (no_command (Generate numbers) c.args.words.now (sym c.in-None.ensures) named)
-| inr named ↦ absurd (no_command (Soak numbers) c.args.words.now (sym c.in-None.ensures) named)
+  | inl named ↦ absurd (no_command (Generate numbers) c.args.words.now (sym c.in-None.ensures) named)
+  | inr named ↦ absurd (no_command (Soak numbers) c.args.words.now (sym c.in-None.ensures) named)
 ]
 
 pub returns-in-Some-clause-unnamed : goal.returns-in-Some-clause-unnamed
@@ -66,6 +66,6 @@ returns-in-Some-clause-soaks g c = λ numbers named.
 
 pub returns-in-Some-clause-seeded : goal.returns-in-Some-clause-seeded
 returns-in-Some-clause-seeded g c = λ numbers either. elim either [
-  inl named ↦ c.perform.ensures.seeded numbers (inl (one_command c.in-Some.command (Generate numbers) c.args.words.now (sym c.in-Some.ensures) named))
-| inr named ↦ c.perform.ensures.seeded numbers (inr (one_command c.in-Some.command (Soak numbers) c.args.words.now (sym c.in-Some.ensures) named))
+  | inl named ↦ c.perform.ensures.seeded numbers (inl (one_command c.in-Some.command (Generate numbers) c.args.words.now (sym c.in-Some.ensures) named))
+  | inr named ↦ c.perform.ensures.seeded numbers (inr (one_command c.in-Some.command (Soak numbers) c.args.words.now (sym c.in-Some.ensures) named))
 ]
