@@ -17,7 +17,7 @@ pub(crate) struct Case {
     output: Option<&'static str>,
 }
 
-pub(crate) const COMMANDS: [Case; 11] = [
+pub(crate) const COMMANDS: [Case; 16] = [
     Case {
         words: &["gen", "1", "2000"],
         input: None,
@@ -72,6 +72,31 @@ pub(crate) const COMMANDS: [Case; 11] = [
         words: &["quorum"],
         input: Some("epoch_too_far.quorum"),
         output: Some("epoch_too_far.run"),
+    },
+    Case {
+        words: &["totals"],
+        input: Some("commuting_additions.sched"),
+        output: Some("commuting_additions.totals"),
+    },
+    Case {
+        words: &["totals"],
+        input: Some("commuting_additions_serial.sched"),
+        output: None,
+    },
+    Case {
+        words: &["restore"],
+        input: Some("backup.backup"),
+        output: Some("backup.restored"),
+    },
+    Case {
+        words: &["restore"],
+        input: Some("backup_aborted.backup"),
+        output: Some("backup_aborted.restored"),
+    },
+    Case {
+        words: &["restore"],
+        input: Some("bad_backup_line.backup"),
+        output: None,
     },
 ];
 
