@@ -1,7 +1,7 @@
 """Random and changed inputs of one kind through two programs that know the same commands.
 
-Called as `fuzz.py PROGRAM PEER KIND COUNT FIRST_SEED`. The kinds are schedule (`replay`), trace (`audit`) and quorum
-(`quorum`). The peer makes each input; of two inputs one is changed. Both programs must answer alike: bytes on standard
+Called as `fuzz.py PROGRAM PEER KIND COUNT FIRST_SEED`. The kinds are schedule (`replay`), trace (`audit`), quorum (`quorum`)
+and file (`restore`). The peer makes each input; of two inputs one is changed. Both programs must answer alike: bytes on standard
 output, exit number, and text on standard error.
 """
 
@@ -9,7 +9,7 @@ import subprocess
 import sys
 from multiprocessing import Pool
 
-COMMANDS = {"schedule": "replay", "trace": "audit", "quorum": "quorum"}
+COMMANDS = {"schedule": "replay", "trace": "audit", "quorum": "quorum", "file": "restore"}
 RULES = ["serial", "snapshot", "commute"]
 
 
@@ -22,6 +22,8 @@ def made(peer, kind, seed):
     number = str(seed)
     if kind == "quorum":
         text = output([peer, "random", "quorum", number, str(5 + seed % 60)])
+    elif kind == "file":
+        text = output([peer, "random", "file", number])
     else:
         version, rule = str(1 + seed % 2), RULES[seed % 3]
         text = output([peer, "random", "schedule", number, version, rule, str(5 + seed % 60)])

@@ -1,5 +1,5 @@
 #!/bin/sh
-# Random and changed schedules, traces and quorum inputs through `tcs` and through another program that knows the same
+# Random and changed schedules, traces, quorum inputs and backup files through `tcs` and through another program that knows the same
 # commands and makes the inputs: both must answer alike, and none may crash. The first argument is the number of inputs of
 # each kind (200,000 without one), the second the first seed (1).
 #
@@ -14,6 +14,6 @@ for needed in "$peer" "$program"; do
         exit 0
     fi
 done
-for kind in schedule trace quorum; do
+for kind in schedule trace quorum file; do
     python3 "$top/bench/fuzz.py" "$program" "$peer" "$kind" "${1:-200000}" "${2:-1}"
 done

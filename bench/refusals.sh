@@ -55,27 +55,27 @@ void *aligned_alloc(size_t align, size_t size) {
 C
 cc -O2 -shared -fPIC -o "$work/refuse.so" "$work/refuse.c" -ldl
 
-# Each allocation of `tcs WORD` on an input.
+# Each allocation of `tcs WORDS` on an input.
 try() {
-    word=$1 input=$2
+    words=$1 input=$2
     usual=0
-    "$program" "$word" <"$input" >"$work/usual" 2>/dev/null || usual=$?
+    "$program" $words <"$input" >"$work/usual" 2>/dev/null || usual=$?
     number=1 ended=0
     while :; do
         rm -f "$work/refused"
         status=0
         REFUSE=$number REFUSED=$work/refused LD_PRELOAD=$work/refuse.so \
-            "$program" "$word" <"$input" >"$work/output" 2>/dev/null || status=$?
+            "$program" $words <"$input" >"$work/output" 2>/dev/null || status=$?
         [ -e "$work/refused" ] || break
         if [ "$status" = 6 ]; then
             ended=$((ended + 1))
         elif [ "$status" != "$usual" ] || ! cmp -s "$work/output" "$work/usual"; then
-            echo "$word of $(basename "$input"): allocation $number refused gives status $status"
+            echo "$words of $(basename "$input"): allocation $number refused gives status $status"
             exit 1
         fi
         number=$((number + 1))
     done
-    echo "$word of $(basename "$input"): $((number - 1)) allocations, $ended of them refused give status 6, the others the usual"
+    echo "$words of $(basename "$input"): $((number - 1)) allocations, $ended of them refused give status 6, the others the usual"
 }
 
 try replay "$top/examples/one-commit.sched"
@@ -83,3 +83,6 @@ try replay "$top/crates/worked_runs/data/take_over_after_leader_stops.sched"
 try replay "$top/crates/worked_runs/data/state_in_two_pieces.sched"
 try audit "$top/examples/take-over.trace"
 try quorum "$top/examples/two-proposers.quorum"
+try totals "$top/examples/counters.sched"
+try restore "$top/crates/worked_runs/data/backup.backup"
+try 'soak 1 30' /dev/null

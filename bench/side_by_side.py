@@ -1,7 +1,7 @@
-"""Runs programs one after the other on the same input, and tells their seconds and their peaks of memory.
+"""Runs programs one after the other on the same input, by the same words, and tells their seconds and their peaks of memory.
 
-side_by_side.py compare TCS PEER RUNS NAME WORD INPUT     medians, ratio of speed, ratio of memory
-side_by_side.py growth TCS RUNS WORD UNIT SCALE COUNT INPUT COUNT INPUT   the time for one unit of each input, and its growth
+side_by_side.py compare TCS PEER RUNS NAME WORDS INPUT    medians, ratio of speed, ratio of memory
+side_by_side.py growth TCS RUNS WORDS UNIT SCALE COUNT INPUT COUNT INPUT  the time for one unit of each input, and its growth
 """
 import os
 import statistics
@@ -16,7 +16,7 @@ def run(program, word, path):
     if child == 0:
         os.dup2(os.open(path, os.O_RDONLY), 0)
         os.dup2(os.open(os.devnull, os.O_WRONLY), 1)
-        os.execv(program, [program, word])
+        os.execv(program, [program, *word.split()])
     _, status, usage = os.wait4(child, 0)
     code = os.waitstatus_to_exitcode(status)
     if code not in (0, 1):
