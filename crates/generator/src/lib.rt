@@ -5,8 +5,6 @@
 mod accounts;
 mod course;
 mod doings;
-#[cfg(test)]
-mod tests;
 mod transfers;
 
 pub use accounts::Reading;
