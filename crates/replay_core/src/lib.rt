@@ -13,5 +13,6 @@ mod stops;
 mod tests;
 mod worlds;
 
+pub use reading::Reading;
 pub use replaying::replay;
 pub use stops::ReplayStop;

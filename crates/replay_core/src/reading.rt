@@ -10,19 +10,23 @@ use std::alloc::Global;
 use tcs_io::Source;
 use tcs_terms::OutOfMemory;
 
-/// What a replay keeps of its input: the bytes that were read ahead, the line in work, the reader, and how many lines
-/// were taken.
+/// What a program keeps of a schedule that it reads: the bytes that were read ahead, the line in work, the reader, and
+/// how many lines were taken. A replay and each other program that runs a schedule read by it.
 #[derive(Debug, Drop)]
-pub(crate) struct Reading {
-    pub(crate) lines: Lines,
-    pub(crate) line: Vec<u8>,
-    pub(crate) reader: LineReader,
-    pub(crate) number: u32,
+pub struct Reading {
+    /// What was read of the input and not yet taken, at most 4,097 bytes.
+    pub lines: Lines,
+    /// The line that was taken last, without its line feed.
+    pub line: Vec<u8>,
+    /// Where the lines so far stand in the grammar, and the setup that they make.
+    pub reader: LineReader,
+    /// How many lines were taken.
+    pub number: u32,
 }
 
 impl Reading {
     /// No line is taken yet.
-    pub(crate) fn begin(alloc: Global) -> Result<Reading, OutOfMemory>
+    pub fn begin(alloc: Global) -> Result<Reading, OutOfMemory>
         ensures { IfOk result (λ r. (r.lines ≡ []) × (r.reader ≡ at_start) × (r.number ≡ 0)) }
     {
         Ok(Reading {
@@ -34,7 +38,11 @@ impl Reading {
     }
 
     /// Takes the next line, or the end of the input.
-    pub(crate) fn take<S: Source>(&mut self, input: &mut S) -> Result<LineItem, ReplayStop>
+    ///
+    /// # Errors
+    /// `Bad` where the line may not stand here, with its number and reason; `ReadFault` only where the source counted a
+    /// fault.
+    pub fn take<S: Source>(&mut self, input: &mut S) -> Result<LineItem, ReplayStop>
         requires { self.old.number < 4294967295 }
         ensures item { IfOk result (λ item. Takes self.old self.new item (S.left input.old) (S.left input.new)) }
         ensures stop { IfErr result (Refuses self.old (S.left input.old) (S.left input.new)) }

@@ -21,7 +21,7 @@ pub(crate) struct Header {
     alloc: Global,
     pub(crate) place: Place,
     version: u8,
-    rule: Rule,
+    pub(crate) rule: Rule,
     shards: u8,
     nodes: Vec<ShardId>,
     configs: Vec<Config>,

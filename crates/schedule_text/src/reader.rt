@@ -16,7 +16,7 @@ use crate::verbs::{Verb, is_word, verb_of};
 use crate::word_readers::end;
 use std::alloc::Global;
 use std::marker::Model;
-use tcs_terms::{Event, Setup};
+use tcs_terms::{Event, Rule, Setup};
 use text_words::{Reason, Words};
 
 /// What a line of a schedule is.
@@ -68,6 +68,13 @@ impl LineReader {
             head: Header::new(alloc),
             count: 0,
         }
+    }
+
+    /// The rule that the header names; before its second line was taken, `Serial`.
+    pub fn rule(&self) -> Rule
+        ensures { result ≡ self.now.head.setup.rule }
+    {
+        self.head.rule
     }
 
     /// Takes what the reader of lines found next: a line without its line feed, or the end of the input.
