@@ -2,7 +2,6 @@
 
 use crate::acting::Recorder;
 use crate::header::header;
-use crate::known::Known;
 use crate::playing::play;
 use crate::polling::Polling;
 use crate::reading::Reading;
@@ -14,7 +13,6 @@ use tcs_io::{Sink, Source, write_all};
 use tcs_laws::VoteGuard;
 use tcs_link::Link;
 use tcs_terms::{NodeId, OutOfMemory, Rule, Setup};
-use world::World;
 
 /// The script of a cluster lets at most this many turns pass.
 pub const CLUSTER_TURNS: u32 = 15_000;
@@ -70,11 +68,6 @@ fn record<G: VoteGuard, S: Source, K: Sink, L: Link>(
     print_setup(&setup, &mut text)?;
     write_all(output, &text)?;
     let mut polling = Polling::new(alloc)?;
-    let mut recorder = Recorder {
-        alloc,
-        world: World::<G>::new(alloc, setup)?,
-        known: Known::new(alloc),
-        text,
-    };
+    let mut recorder = Recorder::<G>::new(alloc, setup)?;
     play(reading, &mut recorder, &mut polling, input, output, link)
 }

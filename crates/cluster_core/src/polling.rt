@@ -1,4 +1,15 @@
 //! Lets turns pass: each polls the service, and then each node that goes on.
+ghost use Rattle.std.specs.Prelude.{◌≡◌, ◌+◌, ◌*◌, ◌<◌, ◌≤◌, ◌∷◌, not, List, length, filter, OnOk, IfOk, IsErrOf};
+ghost use Rattle.std.specs.List.{range_with_len};
+ghost use Rattle.tcs_io.specs.Faults.{Rose};
+ghost use Rattle.tcs_terms.specs.declared.inputs.Event.{Event};
+ghost use Rattle.tcs_terms.specs.Places.{is_among};
+ghost use Rattle.tcs_terms.specs.Setups.{Deployment};
+ghost use Rattle.schedule_text.specs.declared.limits.TheConstants.{EVENT_LIMIT};
+ghost use Rattle.protocol_laws.specs.Promises.{world_of};
+ghost use Rattle.world.specs.WorldState.{events_of};
+ghost use Rattle.cluster_core.specs.Recorded.{polled_in};
+ghost use Rattle.cluster_core.specs.Standing.{Stands, PollsOne, PollsAll, Settled};
 
 use crate::acting::{Recorder, act};
 use crate::known::Envelope;
@@ -10,7 +21,7 @@ use tcs_link::{Link, Polled};
 use tcs_terms::{Event, NodeId, OutOfMemory};
 use world::World;
 
-/// A frame has at most this many bytes; one that is longer is cut, and then equals none that was sent.
+/// A longer frame is cut to this many bytes, and then equals none that was sent.
 const MOST_BYTES: usize = 65_536;
 
 /// The buffers of the polls.
@@ -18,8 +29,8 @@ const MOST_BYTES: usize = 65_536;
 pub(crate) struct Polling {
     /// The bytes of the frame that was polled last.
     pub(crate) buffer: Vec<u8>,
-    /// Who is polled in the turn that passes.
-    pub(crate) names: Vec<NodeId>,
+    /// The nodes that are polled in the turn that passes.
+    pub(crate) nodes: Vec<NodeId>,
 }
 
 impl Polling {
@@ -28,19 +39,21 @@ impl Polling {
         buffer.resize(MOST_BYTES, 0)?;
         Ok(Polling {
             buffer,
-            names: Vec::new(alloc),
+            nodes: Vec::new(alloc),
         })
     }
 }
 
-/// Puts the names of those that are polled in the place of others: the service, and then, ascending, each node that has
-/// not stopped.
-fn put_names<G: VoteGuard>(world: &World<G>, names: &mut Vec<NodeId>) -> Result<(), OutOfMemory> {
-    names.clear();
-    names.push(0)?;
+/// Puts the nodes that have not stopped in the place of others, ascending.
+fn put_going<G: VoteGuard>(world: &World<G>, nodes: &mut Vec<NodeId>) -> Result<(), OutOfMemory>
+    requires { length world.now.setup.nodes ≤ 64 }
+    ensures { OnOk result (nodes.new.items ≡ filter (λ n. not (is_among (world_of world.now.progress).stopped n))
+        (range_with_len 1 (length world.now.setup.nodes))) }
+{
+    nodes.clear();
     for node in 1..world.setup().nodes().len() as u8 + 1 {
         if !world.stopped(node) {
-            names.push(node)?;
+            nodes.push(node)?;
         }
     }
     Ok(())
@@ -54,7 +67,18 @@ fn poll_one<G: VoteGuard, K: Sink, L: Link>(
     buffer: &mut [u8],
     output: &mut K,
     link: &mut L,
-) -> Result<(), ServeStop> {
+) -> Result<(), ServeStop>
+    requires stands { (d : Deployment) × (es : List Event) × Stands G.Rule.tests recorder.old d es }
+    requires few { events_of recorder.old.world.progress < EVENT_LIMIT }
+    ensures polls { (d : Deployment) (es : List Event) → Stands G.Rule.tests recorder.old d es
+        → OnOk result (PollsOne G.Rule.tests d es node recorder.new
+        (K.held output.old) (K.held output.new) (L.told link.old) (L.told link.new)) }
+    ensures wrote { K.faults output.old ≤ K.faults output.new }
+    ensures write_fault { IsErrOf result ServeStop.WriteFault → Rose (K.faults output.old) (K.faults output.new) }
+    ensures read_fault { IsErrOf result ServeStop.ReadFault → ⊥ }
+    ensures link { L.faults link.old ≤ L.faults link.new }
+    ensures link_fault { IsErrOf result ServeStop.LinkFault → Rose (L.faults link.old) (L.faults link.new) }
+{
     match link.poll(node, buffer)? {
         Polled::Nothing => Ok(()),
         Polled::Frame { from, len } => {
@@ -67,18 +91,59 @@ fn poll_one<G: VoteGuard, K: Sink, L: Link>(
     }
 }
 
+/// Polls each of these once.
+fn poll_all<G: VoteGuard, K: Sink, L: Link>(
+    recorder: &mut Recorder<G>,
+    nodes: &[NodeId],
+    buffer: &mut [u8],
+    output: &mut K,
+    link: &mut L,
+) -> Result<(), ServeStop>
+    requires stands { (d : Deployment) × (es : List Event) × Stands G.Rule.tests recorder.old d es }
+    requires few { events_of recorder.old.world.progress + length nodes.now ≤ EVENT_LIMIT }
+    ensures polls { (d : Deployment) (es : List Event) → Stands G.Rule.tests recorder.old d es
+        → OnOk result (PollsAll G.Rule.tests d es nodes.now recorder.new
+        (K.held output.old) (K.held output.new) (L.told link.old) (L.told link.new)) }
+    ensures wrote { K.faults output.old ≤ K.faults output.new }
+    ensures write_fault { IsErrOf result ServeStop.WriteFault → Rose (K.faults output.old) (K.faults output.new) }
+    ensures read_fault { IsErrOf result ServeStop.ReadFault → ⊥ }
+    ensures link { L.faults link.old ≤ L.faults link.new }
+    ensures link_fault { IsErrOf result ServeStop.LinkFault → Rose (L.faults link.old) (L.faults link.new) }
+{
+    'nodes: for node in nodes {
+        poll_one(recorder, *node, buffer, output, link)?;
+    }
+    Ok(())
+}
+
 /// One turn.
 fn turn<G: VoteGuard, K: Sink, L: Link>(
     recorder: &mut Recorder<G>,
     polling: &mut Polling,
     output: &mut K,
     link: &mut L,
-) -> Result<(), ServeStop> {
-    put_names(&recorder.world, &mut polling.names)?;
-    for node in &polling.names {
-        poll_one(recorder, *node, &mut polling.buffer, output, link)?;
-    }
-    Ok(())
+) -> Result<(), ServeStop>
+    requires stands { (d : Deployment) × (es : List Event) × Stands G.Rule.tests recorder.old d es }
+    requires nodes { length recorder.old.world.setup.nodes ≤ 64 }
+    requires few { events_of recorder.old.world.progress + 65 ≤ EVENT_LIMIT }
+    ensures polls { (d : Deployment) (es : List Event) → Stands G.Rule.tests recorder.old d es
+        → OnOk result (PollsAll G.Rule.tests d es (polled_in d es) recorder.new
+        (K.held output.old) (K.held output.new) (L.told link.old) (L.told link.new)) }
+    ensures wrote { K.faults output.old ≤ K.faults output.new }
+    ensures write_fault { IsErrOf result ServeStop.WriteFault → Rose (K.faults output.old) (K.faults output.new) }
+    ensures read_fault { IsErrOf result ServeStop.ReadFault → ⊥ }
+    ensures link { L.faults link.old ≤ L.faults link.new }
+    ensures link_fault { IsErrOf result ServeStop.LinkFault → Rose (L.faults link.old) (L.faults link.new) }
+{
+    put_going(&recorder.world, &mut polling.nodes)?;
+    poll_one(recorder, 0, &mut polling.buffer, output, link)?;
+    poll_all(
+        recorder,
+        &polling.nodes,
+        &mut polling.buffer,
+        output,
+        link,
+    )
 }
 
 /// So many turns.
@@ -88,8 +153,20 @@ pub(crate) fn settle<G: VoteGuard, K: Sink, L: Link>(
     turns: u32,
     output: &mut K,
     link: &mut L,
-) -> Result<(), ServeStop> {
-    for _turn in 0..turns {
+) -> Result<(), ServeStop>
+    requires stands { (d : Deployment) × (es : List Event) × Stands G.Rule.tests recorder.old d es }
+    requires nodes { length recorder.old.world.setup.nodes ≤ 64 }
+    requires few { events_of recorder.old.world.progress + 65 * turns ≤ EVENT_LIMIT }
+    ensures settled { (d : Deployment) (es : List Event) → Stands G.Rule.tests recorder.old d es
+        → OnOk result (Settled G.Rule.tests d es turns recorder.new
+        (K.held output.old) (K.held output.new) (L.told link.old) (L.told link.new)) }
+    ensures wrote { K.faults output.old ≤ K.faults output.new }
+    ensures write_fault { IsErrOf result ServeStop.WriteFault → Rose (K.faults output.old) (K.faults output.new) }
+    ensures read_fault { IsErrOf result ServeStop.ReadFault → ⊥ }
+    ensures link { L.faults link.old ≤ L.faults link.new }
+    ensures link_fault { IsErrOf result ServeStop.LinkFault → Rose (L.faults link.old) (L.faults link.new) }
+{
+    for _passed in 0..turns {
         turn(recorder, polling, output, link)?;
     }
     Ok(())
