@@ -1,1 +1,5 @@
 pub mod LeastNumbers
+pub mod Messages
+pub mod Polls
+pub mod Steps
+pub mod Scripts

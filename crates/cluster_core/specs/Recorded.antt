@@ -20,7 +20,7 @@ use Rattle.protocol.specs.World.{Sent}
 use Rattle.protocol_laws.specs.Promises.{world_of}
 use Rattle.replay_core.specs.Trace.{run_of}
 use Rattle.replay_core.specs.Replays.{Kept}
-use Rattle.cluster_core.specs.declared.cluster.TheConstants.{CLUSTER_TURNS}
+use Rattle.cluster_core.specs.declared.clusters.TheConstants.{CLUSTER_TURNS}
 use Rattle.cluster_core.specs.Known.{least_number}
 
 -- ---- frames
@@ -61,14 +61,14 @@ abbrev pub polled_in : Deployment → List Event → List ℕ
 polled_in d es = 0 ∷ filter (λ n. not (is_among (world_of (run_of d es)).stopped n)) (range_with_len 1 (length d.nodes))
 
 -- So many turns pass after these events: the polls that they make, and the events after them.
-data pub Turns (d : Deployment) (es : List Event) : ℕ → List Poll → List Event → Type 0 where
+pub data Turns (d : Deployment) (es : List Event) : ℕ → List Poll → List Event → Type 0 where
   no_turn : Turns d es 0 [] es
   one_turn : (turns : ℕ) (polls : List Poll) (now : List Event) (its : List Poll) → Turns d es turns polls now → map (λ poll. poll.node) its ≡ polled_in d now
       → Turns d es (turns + 1) (polls ++ its) (after_polls d now its)
 
 -- The lines of a script, one after the other: the polls of their turns, and the events of the run. An event of the
 -- script happens at its line, and the deliveries of a line's polls stand at the place of that line.
-data pub Plays (d : Deployment) : List ScriptStep → List Poll → List Event → Type 0 where
+pub data Plays (d : Deployment) : List ScriptStep → List Poll → List Event → Type 0 where
   no_line : Plays d [] [] []
   happens : (steps : List ScriptStep) (polls : List Poll) (es : List Event) (event : Event) → Plays d steps polls es
       → Plays d (steps ++ Happens event ∷ []) polls (es ++ event ∷ [])

@@ -2,7 +2,7 @@
 #![tactic(auto)]
 
 mod acting;
-mod cluster;
+mod clusters;
 mod header;
 mod known;
 mod playing;
@@ -13,6 +13,6 @@ mod stops;
 #[cfg(test)]
 mod tests;
 
-pub use cluster::{CLUSTER_TURNS, cluster};
+pub use clusters::{CLUSTER_TURNS, cluster};
 pub use known::{Envelope, Known};
 pub use stops::ServeStop;
