@@ -1,6 +1,7 @@
 -- The messages of an event, handed to the link one after the other.
 use Rattle.std.proofs.Common.{◌≡◌, ℕ, ◌+◌, ◌-◌, ◌≤◌, ◌<◌, Bool, true, false, nat_eq, cond, List, [], ◌∷◌, ◌++◌, length, map, get_or, take, drop, Option, Some, None, refl, sym, ◌∙◌, ap, subst, append_assoc, arith}
 use Rattle.std.specs.List.{slice_get}
+use Rattle.std.proofs.lemmas.Bool.{ne_eqb}
 use Rattle.std.proofs.lemmas.List.{append-nil, take_more, take_all, get_or-drop, length-drop, length-take-le, map-append}
 use Rattle.std.proofs.lemmas.Option.{get_or_from_slice_get}
 use Rattle.tcs_link.specs.declared.telling.Sent.{Sent as Frame}
@@ -16,7 +17,7 @@ use Rattle.cluster_core.specs.Recorded.{framed}
 use Rattle.cluster_core.specs.Standing.{HandsFront}
 
 zero_no : (n : ℕ) → 1 ≤ n → nat_eq n 0 ≡ false
-zero_no n positive = omega (arith, positive)
+zero_no n positive = ne_eqb n 0 (λ z. absurd (omega (arith, z, positive)))
 
 number_there : (ms : List Sent) (number : ℕ) → 1 ≤ number → message_of ms number ≡ slice_get ms (number - 1)
 number_there ms number positive = ap (λ (b : Bool). cond b None (slice_get ms (number - 1))) (zero_no number positive)

@@ -22,7 +22,7 @@ fn keep(
     number: u32,
     posted: Posted<'_>,
 ) -> Result<(), OutOfMemory>
-    ensures { (sent : List Sent) (s : Sent) → IsTable known.old sent → Posts posted s → number ≡ 1 + length sent
+    ensures { (sent : List Sent) (s : Sent) → IsTable known.old sent → Posts posted.entry s → number ≡ 1 + length sent
         → OnOk result (IsTable known.new (sent ++ s ∷ [])) }
 {
     let envelope = Envelope::of(alloc, posted.from, posted.to, posted.frame)?;
@@ -33,7 +33,7 @@ fn keep(
 fn hand<L: Link>(link: &mut L, posted: Posted<'_>) -> Result<(), OutOfMemory>
     ensures handed { (before : Told) → L.told link.old ≡ Some before
         → OnOk result (L.told link.new
-        ≡ Some (after_send before (record { from = posted.from; to = posted.to; bytes = posted.frame.now }))) }
+        ≡ Some (after_send before (record { from = posted.entry.from; to = posted.entry.to; bytes = posted.entry.frame.now }))) }
     ensures kept { OnErr result (L.told link.new ≡ L.told link.old) }
     ensures faults { L.faults link.new ≡ L.faults link.old }
 {
