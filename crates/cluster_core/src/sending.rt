@@ -45,6 +45,7 @@ fn hand<L: Link>(link: &mut L, posted: Posted<'_>) -> Result<(), OutOfMemory>
 }
 
 /// Hands the messages from this number on to the link, in order, and keeps their numbers.
+#[tactic(auto, unfolding(protocol::specs::Limit::frame_limit))]
 pub(crate) fn hand_out<G: VoteGuard, L: Link>(
     alloc: Global,
     world: &World<G>,
