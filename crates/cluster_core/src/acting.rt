@@ -71,6 +71,7 @@ fn put_line(text: &mut Vec<u8>, event: &Event) -> Result<(), OutOfMemory>
 }
 
 /// Takes an event: it is stepped, its line is written, and its messages are handed to the link.
+#[tactic(auto, unfolding(protocol::specs::Limit::frame_limit))]
 pub(crate) fn act<G: VoteGuard, K: Sink, L: Link>(
     recorder: &mut Recorder<G>,
     event: Event,
