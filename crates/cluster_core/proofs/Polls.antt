@@ -1,6 +1,12 @@
 -- Polls: what one comes to, and many of them one after the other.
-use Rattle.std.proofs.Common.{◌≡◌, ℕ, ◌+◌, ◌*◌, ◌≤◌, ◌<◌, true, false, List, [], ◌∷◌, ◌++◌, length, map, fold, take, get_or, Option, Some, None, refl, sym, ◌∙◌, ap, subst, append_assoc, length-append, arith}
-use Rattle.std.proofs.lemmas.List.{append-nil, map-append, fold-append, length-map, take_more}
+use Rattle.std.proofs.Common.{◌≡◌, ℕ, ◌+◌, ◌*◌, ◌≤◌, ◌<◌, Bool, true, false, cond, List, [], ◌∷◌, ◌++◌, length, map, fold, take, get_or, Option, Some, None, refl, sym, ◌∙◌, ap, subst, append_assoc, length-append, arith}
+use Rattle.std.specs.List.{position_from, range_with_len}
+use Rattle.std.specs.Prelude.{not, filter}
+use Rattle.std.proofs.lemmas.List.{append-nil, map-append, length-map, take_more}
+use Rattle.std.proofs.lemmas.List.Sums.{fold-append}
+use Rattle.std.proofs.lemmas.List.FromFn.{length-range_with_len}
+use Rattle.tcs_terms.specs.Places.{is_among}
+use Rattle.protocol_laws.specs.Promises.{world_of}
 use Rattle.tcs_terms.specs.declared.inputs.Event.{Event}
 use Rattle.tcs_terms.specs.declared.inputs.Event.TheVariants.{DeliverNumber}
 use Rattle.tcs_terms.specs.Setups.{Deployment}
@@ -16,9 +22,32 @@ use Rattle.world.specs.WorldState.{events_of}
 use Rattle.replay_core.specs.Trace.{run_of, is_live}
 use Rattle.replay_core.specs.Standing.{RunsAt}
 use Rattle.replay_core.proofs.TraceLemmas.{CountedIn, counted}
+use Rattle.cluster_core.specs.declared.known.Envelope.{Envelope}
+use Rattle.cluster_core.specs.Known.{is_alike, least_number}
 use Rattle.cluster_core.specs.Recorded.{messages_of, front, calls, heard, heard_of, delivery, after_poll, after_polls, polled_in, Turns}
 use Rattle.cluster_core.specs.Recorded.Turns.{no_turn, one_turn}
 use Rattle.cluster_core.specs.Standing.{RecorderState, Stands, Shows, Goes, PollsOne, PollsAll, Settled}
+
+-- ---- what a table tells
+
+some_is : (m n : ℕ) → ◌≡◌ {A = Option ℕ} (Some m) (Some n) → m ≡ n
+some_is m n e = cc
+
+position_least : {X : Type 0} (p : X → Bool) (i : ℕ) (xs : List X) (n : ℕ) → position_from p i xs ≡ Some n → i ≤ n
+position_least p i [] n h = absurd cc
+position_least p i (x ∷ xs) n h = go (p x) (λ e. position_least p (i + 1) xs n e) h where
+  go : (b : Bool) → (position_from p (i + 1) xs ≡ Some n → i + 1 ≤ n) → cond b (Some i) (position_from p (i + 1) xs) ≡ Some n → i ≤ n
+  go true later e = omega (arith, some_is i n e)
+  go false later e = omega (arith, later e)
+
+-- messages are numbered from 1
+pub number_some : (ms : List Sent) (from to : ℕ) (frame : List ℕ) (n : ℕ) → least_number ms from to frame ≡ Some n → 1 ≤ n
+number_some ms from to frame n h = position_least (is_alike from to frame) 1 ms n h
+
+-- the number that is found is that of the frame which was polled
+pub heard_is : (ms : List Sent) (node from : ℕ) (bytes : List ℕ) (e : Envelope) (found o : Option ℕ) → found ≡ least_number ms e.from e.to e.frame.items → found ≡ o → e.from ≡ from → e.to ≡ node → e.frame.items ≡ bytes
+    → heard_of ms node (Some (record { from = from; bytes = bytes })) ≡ o
+heard_is ms node from bytes e found o least is sender receiver frame = (λ j. least_number ms (sym sender j) (sym receiver j) (sym frame j)) ∙ sym least ∙ is
 
 -- ---- one after the other
 
@@ -152,6 +181,25 @@ settled_more tests d es turns r r' h h' h'' t t' t'' s a = record {
   made = one_turn turns s.its s.now a.its s.made a.of;
   goes = goes_then tests d es s.now (after_polls d s.now a.its) s.its a.its r r' h h' h'' t t' t'' s.goes a.goes;
 }
+
+-- those that are polled in a turn which begins here
+pub names_are : (tests : Tests) (r : RecorderState) (d : Deployment) (es : List Event) (nodes : List ℕ) → Stands tests r d es
+    → nodes ≡ filter (λ n. not (is_among (world_of r.world.progress).stopped n)) (range_with_len 1 (length r.world.setup.nodes)) → 0 ∷ nodes ≡ polled_in d es
+names_are tests r d es nodes s is =
+    ap (λ (ns : List ℕ). 0 ∷ ns) (is ∙ (λ j. filter (λ n. not (is_among (world_of (s.runs.so_far j)).stopped n)) (range_with_len 1 (length (s.runs.of j).nodes))))
+
+filter_few : {X : Type 0} (p : X → Bool) (xs : List X) → length (filter p xs) ≤ length xs
+filter_few p [] = omega arith
+filter_few p (x ∷ xs) = go (p x) (filter_few p xs) where
+  go : (b : Bool) → length (filter p xs) ≤ length xs → length (cond b (x ∷ filter p xs) (filter p xs)) ≤ length (x ∷ xs)
+  go true few = omega (arith, few)
+  go false few = omega (arith, few)
+
+pub nodes_few : (stopped : List ℕ) (count : ℕ) (nodes : List ℕ) → nodes ≡ filter (λ n. not (is_among stopped n)) (range_with_len 1 count) → length nodes ≤ count
+nodes_few stopped count nodes is = omega (arith, ap length is, filter_few (λ n. not (is_among stopped n)) (range_with_len 1 count), length-range_with_len 1 count)
+
+pub turn_few : (d : Deployment) → length d.nodes ≤ 64 → (es : List Event) → length (polled_in d es) ≤ 65
+turn_few d few es = omega (arith, few, filter_few (λ n. not (is_among (world_of (run_of d es)).stopped n)) (range_with_len 1 (length d.nodes)), length-range_with_len 1 (length d.nodes))
 
 -- a turn makes at most 65 events
 pub turns_few : (d : Deployment) (es : List Event) (turns : ℕ) (its : List Poll) (now : List Event) → Turns d es turns its now → ((at : List Event) → length (polled_in d at) ≤ 65) → length now ≤ length es + 65 * turns

@@ -4,6 +4,7 @@ ghost use Rattle.std.specs.List.{range_with_len};
 ghost use Rattle.tcs_io.specs.Faults.{Rose};
 ghost use Rattle.tcs_terms.specs.declared.inputs.Event.{Event};
 ghost use Rattle.tcs_terms.specs.Places.{is_among};
+ghost use Rattle.tcs_terms.specs.Runs.{MayStand};
 ghost use Rattle.tcs_terms.specs.Setups.{Deployment};
 ghost use Rattle.schedule_text.specs.declared.limits.TheConstants.{EVENT_LIMIT};
 ghost use Rattle.protocol_laws.specs.Promises.{world_of};
@@ -59,6 +60,15 @@ fn put_going<G: VoteGuard>(world: &World<G>, nodes: &mut Vec<NodeId>) -> Result<
     Ok(())
 }
 
+/// The delivery of the message of a number.
+fn delivery(number: u32) -> Event
+    requires { 1 ≤ number }
+    ensures is { result ≡ Event.DeliverNumber number }
+    ensures may { (d : Deployment) → MayStand d result }
+{
+    Event::DeliverNumber(number)
+}
+
 /// Polls a node, or the service, once. A frame is acted on only where it equals a message that was sent from its sender
 /// to this node; then it is the first such message that is delivered.
 fn poll_one<G: VoteGuard, K: Sink, L: Link>(
@@ -85,7 +95,7 @@ fn poll_one<G: VoteGuard, K: Sink, L: Link>(
             let envelope = Envelope::of(recorder.alloc, from, node, &buffer[..len])?;
             match recorder.known.find(&envelope) {
                 None => Ok(()),
-                Some(number) => act(recorder, Event::DeliverNumber(number), output, link),
+                Some(number) => act(recorder, delivery(number), output, link),
             }
         }
     }
@@ -166,7 +176,7 @@ pub(crate) fn settle<G: VoteGuard, K: Sink, L: Link>(
     ensures link { L.faults link.old ≤ L.faults link.new }
     ensures link_fault { IsErrOf result ServeStop.LinkFault → Rose (L.faults link.old) (L.faults link.new) }
 {
-    for _passed in 0..turns {
+    for passed in 0..turns {
         turn(recorder, polling, output, link)?;
     }
     Ok(())
