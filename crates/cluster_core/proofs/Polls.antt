@@ -156,11 +156,11 @@ polls_more tests d es nodes i node r r' h h' h'' t t' t'' within is a one =
     (polls_join tests d es (take i nodes) node r r' h h' h'' t t' t'' a one)
 
 -- the service first, and then the nodes
-pub polls_turn : (tests : Tests) (d : Deployment) (es : List Event) (nodes : List ℕ) (r r' : RecorderState) (h h' h'' : Option (List ℕ)) (t t' t'' : Option Told) → (one : PollsOne tests d es 0 r h h' t t')
-    → PollsAll tests d (after_poll d es one.poll) nodes r' h' h'' t' t'' → PollsAll tests d es (0 ∷ nodes) r' h h'' t t''
-polls_turn tests d es nodes r r' h h' h'' t t' t'' one a = record {
+pub polls_turn : (tests : Tests) (d : Deployment) (es : List Event) (nodes all : List ℕ) (r r' : RecorderState) (h h' h'' : Option (List ℕ)) (t t' t'' : Option Told) → 0 ∷ nodes ≡ all
+    → (one : PollsOne tests d es 0 r h h' t t') → PollsAll tests d (after_poll d es one.poll) nodes r' h' h'' t' t'' → PollsAll tests d es all r' h h'' t t''
+polls_turn tests d es nodes all r r' h h' h'' t t' t'' are one a = record {
   its = one.poll ∷ a.its;
-  of = λ j. one.of j ∷ a.of j;
+  of = (λ j. one.of j ∷ a.of j) ∙ are;
   goes = goes_then tests d es (after_poll d es one.poll) (after_polls d (after_poll d es one.poll) a.its) (one.poll ∷ []) a.its r r' h h' h'' t t' t'' one.goes a.goes;
 }
 
