@@ -1,3 +1,4 @@
+pub mod Heading
 pub mod LeastNumbers
 pub mod Messages
 pub mod Polls

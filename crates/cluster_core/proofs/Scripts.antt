@@ -3,6 +3,7 @@ use Rattle.std.proofs.Common.{◌≡◌, ℕ, ◌+◌, ◌≤◌, ◌<◌, Bool,
 use Rattle.std.specs.Prelude.{filter_map}
 use Rattle.std.specs.List.{flat_map, AllByRecursion}
 use Rattle.std.proofs.lemmas.List.{append-nil, length-map}
+use Rattle.std.proofs.lemmas.List.FromFn.{length-range_with_len}
 use Rattle.text_words.specs.declared.words.Reason.{Reason}
 use Rattle.text_words.specs.Words.{words_of, begins, after}
 use Rattle.text_words.specs.PayloadWords.{◌>>=◌}
@@ -27,10 +28,11 @@ use Rattle.schedule_text.specs.Schedules.{first_verb, is_ended}
 use Rattle.schedule_text.specs.Scripts.{ScriptProgress, script_start, only_of, script_head_item, script_header_at, script_end_at, turns_at, cluster_settle_at, node_settle_at, counted_settle_at, settle_at, script_event_at, script_verb_at, script_body_at, script_reading, script_before_end, script_after_end}
 use Rattle.schedule_text.specs.ScriptText.{ScriptStep, IsScript, IsScriptRead, StepStands, script_reads, script_items, script_header_items, script_lines, step_item, step_line, lines_counted, turns_passed, counted, passed}
 use Rattle.schedule_text.specs.ScriptText.ScriptStep.{Happens, Settles}
-use Rattle.schedule_text.specs.Text.{setup_lines, node_lines, config_line}
+use Rattle.schedule_text.specs.Text.{setup_lines, first_lines, node_lines, config_line}
 use Rattle.schedule_text.specs.Words.{end_at, between_at}
 use Rattle.schedule_text.proofs.HeaderReadings.{HeadStands, HeadItem, HeadStep, head_lines, head_takes, in_header, setup_is_whole}
 use Rattle.schedule_text.proofs.ScriptReadings.{script_read_to_the_end}
+use Rattle.cluster_core.specs.Taking.{steps_on}
 
 -- ---- one line more
 
@@ -138,16 +140,6 @@ follows p line x at h = follows_body p (words_of line) x (sym (at_body p line at
 
 -- ---- the steps on these lines
 
-abbrev pub step_in : ScriptItem → Option ScriptStep
-step_in items.Header = None
-step_in (items.Begun d) = None
-step_in (items.Event e) = Some (Happens e)
-step_in (items.Settle turns) = Some (Settles turns)
-step_in items.End = None
-
-abbrev pub steps_on : List ScriptItem → List ScriptStep
-steps_on is = filter_map step_in is
-
 pub steps_append : (is js : List ScriptItem) → steps_on (is ++ js) ≡ steps_on is ++ steps_on js
 steps_append [] js = refl
 steps_append (items.Header ∷ is) js = steps_append is js
@@ -166,13 +158,13 @@ no_steps [] = refl
 no_steps (x ∷ xs) = no_steps xs
 
 steps_of_script : (d : Deployment) (ss : List ScriptStep) → steps_on (script_items d ss) ≡ ss
-steps_of_script d ss = steps_append (script_header_items d) (items.Begun d ∷ (map step_item ss ++ items.End ∷ [])) ∙ ap (λ (us : List ScriptStep). us ++ steps_on (map step_item ss ++ items.End ∷ [])) (no_steps _) ∙ steps_of_items ss
+steps_of_script d ss = steps_append (script_header_items d) (items.Begun d ∷ (map step_item ss ++ items.End ∷ [])) ∙ ap (λ (us : List ScriptStep). us ++ steps_on (map step_item ss ++ items.End ∷ [])) (no_steps (first_lines d ++ (node_lines 1 d.nodes ++ map config_line d.configs))) ∙ steps_of_items ss
 
 -- ---- how many lines
 
 many_nodes : (n : ℕ) (shards : List ℕ) → length (node_lines n shards) ≡ length shards
 many_nodes n [] = refl
-many_nodes n (s ∷ ss) = ap (λ k. k + 1) (many_nodes (n + 1) ss)
+many_nodes n (s ∷ ss) = omega (arith, many_nodes (n + 1) ss)
 
 parts_few : (d : Deployment) → length d.nodes ≤ MAX_NODES → length d.configs ≤ MAX_SHARDS → length (head_lines places.Parts d) ≤ 3 + MAX_NODES + MAX_SHARDS
 parts_few d nodes configs = omega (arith, nodes, configs, length-append (node_lines 1 d.nodes) (map config_line d.configs), many_nodes 1 d.nodes, length-map d.configs config_line)
@@ -184,3 +176,83 @@ header_few places.Shards d h s = omega arith
 header_few places.Parts d h s = parts_few d s.1 (omega (arith, s.2, s.3))
 header_few places.Events d h s = absurd cc
 header_few places.Ended d h s = absurd cc
+
+-- ---- what is known behind the line `events`
+
+steps_few : (most : ℕ) (d : Deployment) (steps : List ScriptStep) → AllByRecursion (StepStands (forms.Cluster most) d) steps → length steps ≤ lines_counted (forms.Cluster most) steps + turns_passed (forms.Cluster most) steps
+steps_few most d [] all = omega arith
+steps_few most d (Happens e ∷ steps) all = omega (arith, steps_few most d steps all.1)
+steps_few most d (Settles turns ∷ steps) all = omega (arith, all.0.0, steps_few most d steps all.1)
+
+configs_are : (d : Deployment) → IsDeployment d → length d.configs ≡ d.shards
+configs_are d is = sym (length-map d.configs (λ c. c.shard)) ∙ ap length is.one_each ∙ length-range_with_len 1 d.shards
+
+setup_few : (d : Deployment) → IsDeployment d → length (setup_lines d) ≤ 4 + MAX_NODES + MAX_SHARDS
+setup_few d is =
+    omega (arith, ap length (setup_is_whole d), length-append (head_lines places.Parts d) (codes "events" ∷ []), parts_few d is.few_nodes (omega (arith, configs_are d is, is.few_shards)))
+
+-- the lines so far are the header and these steps, of which there are not many
+pub record BodyIs (most : ℕ) (d : Deployment) (lines : List (List ℕ)) (steps : List ScriptStep) : Type 0 where
+  pub script : IsScript (forms.Cluster most) d steps
+  pub few : length lines ≤ 4 + MAX_NODES + MAX_SHARDS + SCRIPT_LINES + most
+
+end_body : (p : ScriptProgress) → script_body_at p (words_of (codes "end")) ≡ Ok (items.End, record p { head = record { place = places.Ended; setup = p.head.setup } })
+unfolding script_body_at script_end_at
+end_body p = refl
+
+pub body_is : (most : ℕ) (lines : List (List ℕ)) (is : List ScriptItem) (p : ScriptProgress) → script_reads (script_start (forms.Cluster most)) lines ≡ Ok (is, p) → p.head.place ≡ places.Events
+    → BodyIs most p.head.setup lines (steps_on is)
+body_is most lines is p h at =
+    let q : ScriptProgress = record p { head = record { place = places.Ended; setup = p.head.setup } } in
+    let d = p.head.setup in
+    let read = reads_more lines (script_start (forms.Cluster most)) p q is (codes "end") items.End h (at_body p (codes "end") at ∙ end_body p) in
+    let x = script_read_to_the_end (forms.Cluster most) (lines ++ codes "end" ∷ []) (is ++ items.End ∷ []) q read refl in
+    let steps : x.steps ≡ steps_on is = sym (steps_of_script d x.steps) ∙ sym (ap steps_on x.items_are) ∙ steps_append is (items.End ∷ []) ∙ append-nil (steps_on is) in
+    record {
+      script = subst (IsScript (forms.Cluster most) d) steps x.script;
+      few = omega (
+        arith,
+        ap length x.lines_are,
+        length-append lines (codes "end" ∷ []),
+        length-append (setup_lines d) (map step_line x.steps ++ codes "end" ∷ []),
+        length-append (map step_line x.steps) (codes "end" ∷ []),
+        length-map x.steps step_line,
+        setup_few d x.script.setup,
+        steps_few most d x.steps x.script.each,
+        x.script.few,
+        x.script.short,
+      );
+    }
+
+-- ---- in the header
+
+-- what a line there may be, and where the reader then stands
+abbrev pub Heads : ScriptProgress → List ℕ → ScriptItem → ScriptProgress → Type 0
+Heads p line items.Header q = (in_header q.head.place ≡ true) × HeadStands q.head.place q.head.setup × (head_lines q.head.place q.head.setup ≡ head_lines p.head.place p.head.setup ++ line ∷ [])
+Heads p line (items.Begun d) q = (q.head.place ≡ places.Events) × (d ≡ q.head.setup)
+Heads p line (items.Event e) q = ⊥
+Heads p line (items.Settle turns) q = ⊥
+Heads p line items.End q = ⊥
+
+heads_by : (p q : ScriptProgress) (line : List ℕ) (o : Option Deployment) → HeadItem o p.head.place q.head.place p.head.setup q.head.setup → HeadStands q.head.place q.head.setup
+    → head_lines q.head.place q.head.setup ≡ head_lines p.head.place p.head.setup ++ line ∷ [] → Heads p line (script_head_item o) q
+heads_by p q line None item stands lines = (item, stands, lines)
+heads_by p q line (Some d) item stands lines = (item.1, item.2)
+
+at_header : (place : Place) (p : ScriptProgress) (line : List ℕ) → p.head.place ≡ place → in_header place ≡ true → script_reading p Whole line ≡ script_header_at p (words_of line)
+at_header places.Version p line at h = rw at refl
+at_header places.Certifier p line at h = rw at refl
+at_header places.Shards p line at h = rw at refl
+at_header places.Parts p line at h = rw at refl
+at_header places.Events p line at h = absurd cc
+at_header places.Ended p line at h = absurd cc
+
+heads_at : (p : ScriptProgress) (line : List ℕ) (x : ScriptItem × ScriptProgress) → HeadStands p.head.place p.head.setup → script_header_at p (words_of line) ≡ Ok x → Heads p line x.0 x.1
+unfolding script_header_at
+heads_at p line x stands h =
+    let a = bind_ok (head_at (only_of p.form) p.head.place p.head.setup (words_of line)) _ x h in
+    let s = head_takes (only_of p.form) p.head.place p.head.setup line a.0 stands a.1 in
+    subst (λ (y : ScriptItem × ScriptProgress). Heads p line y.0 y.1) (ok_is _ x a.2) (heads_by p (record p { head = a.0.1 }) line a.0.0 s.item s.stands s.lines)
+
+pub heads : (p : ScriptProgress) (line : List ℕ) (x : ScriptItem × ScriptProgress) → in_header p.head.place ≡ true → HeadStands p.head.place p.head.setup → script_reading p Whole line ≡ Ok x → Heads p line x.0 x.1
+heads p line x there stands h = heads_at p line x stands (sym (at_header p.head.place p line refl there) ∙ h)

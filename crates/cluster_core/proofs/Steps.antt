@@ -15,6 +15,7 @@ use Rattle.tcs_link.specs.declared.telling.Sent.{Sent as Frame}
 use Rattle.tcs_link.specs.declared.telling.Poll.{Poll}
 use Rattle.tcs_link.specs.Told.{Told, Attached}
 use Rattle.schedule_text.specs.Printable.{has_line}
+use Rattle.schedule_text.proofs.BytesRead.{all_end}
 use Rattle.schedule_text.specs.Text.{setup_lines, event_line, with_feed}
 use Rattle.protocol.specs.Limit.{Progress as Run, Answer, limited_step}
 use Rattle.protocol.specs.Limit.Progress.{Live, Ended}
@@ -133,13 +134,13 @@ called_on before attached d es now polls old new sent is a was nows =
 
 -- an event was taken: its line was written, and its messages were handed to the link
 pub goes_on : (tests : Tests) (r r' : RecorderState) (d : Deployment) (es : List Event) (e : Event) (h : Happening) (sent : ℕ) (text : List ℕ) (holds holds' : Option (List ℕ)) (told told' : Option Told)
-    → Stands tests r d es → sent ≡ length (world_of r.world.progress).messages
+    → Stands tests r d es → MayStand r.world.setup e → sent ≡ length (world_of r.world.progress).messages
     → Tells (Ok h) (limited_step tests r.world.setup.version r.world.progress e).answer → r'.world.progress ≡ (limited_step tests r.world.setup.version r.world.progress e).after → r'.world.setup ≡ r.world.setup
     → text ≡ with_feed (event_line e) → ((bytes : List ℕ) → holds ≡ Some bytes → holds' ≡ Some (bytes ++ text))
     → (IsTable r.known (take (sent + 1 - 1) (world_of r'.world.progress).messages) → IsTable r'.known (world_of r'.world.progress).messages)
     → ((before : Told) → told ≡ Some before → told' ≡ Some (record before { sent = before.sent ++ map framed (drop (sent + 1 - 1) (world_of r'.world.progress).messages) }))
     → Goes tests d es (es ++ e ∷ []) [] r' holds holds' told told'
-goes_on tests r r' d es e h sent text holds holds' told told' s is tells after same line wrote keeps hands =
+goes_on tests r r' d es e h sent text holds holds' told told' s may is tells after same line wrote keeps hands =
     let old = (world_of r.world.progress).messages in
     let new = (world_of r'.world.progress).messages in
     let a = adds tests r.world.setup.version r.world.progress r'.world.progress e h tells after in
@@ -149,6 +150,7 @@ goes_on tests r r' d es e h sent text holds holds' told told' s is tells after s
     record {
       stands = record {
         runs = runs;
+        may = all_end (MayStand d) es e s.may (subst (λ (x : Deployment). MayStand x e) s.runs.of may);
         table = subst (IsTable r'.known) (sym nows) (keeps (subst (IsTable r.known) (was ∙ sym (those_before old new sent is a)) s.table));
       };
       shows = λ held before attached polls shows. record {

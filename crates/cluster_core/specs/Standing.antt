@@ -1,7 +1,8 @@
 -- Where a recorded run stands between two events. No clause of an engine cites this module.
 use Rattle.std.specs.Prelude.{◌≡◌, ℕ, ◌+◌, ◌<◌, ◌≤◌, false, List, [], ◌∷◌, ◌++◌, map, take, length, IsTrue, Option, Some}
-use Rattle.std.specs.List.{flat_map}
+use Rattle.std.specs.List.{AllByRecursion}
 use Rattle.tcs_terms.specs.declared.inputs.Event.{Event}
+use Rattle.tcs_terms.specs.Runs.{MayStand}
 use Rattle.tcs_terms.specs.Setups.{Deployment}
 use Rattle.tcs_laws.specs.Certification.{Tests}
 use Rattle.tcs_link.specs.declared.telling.Poll.{Poll}
@@ -21,6 +22,7 @@ pub record RecorderState : Type 0 where
 -- it stands behind these events
 pub record Stands (tests : Tests) (r : RecorderState) (d : Deployment) (es : List Event) : Type 0 where
   pub runs : RunsAt tests r.world.setup r.world.progress d es
+  pub may : AllByRecursion (MayStand d) es
   pub table : IsTable r.known (messages_of d es)
 
 -- what the sink holds and what the link tells behind these events and polls

@@ -1,8 +1,8 @@
 //! The input of an engine: the lines of a script, taken one after the other.
-ghost use Rattle.std.specs.Prelude.{◌≡◌, ◌+◌, ◌<◌, ◌≤◌, [], IfOk, IfErr, IsErrOf};
+ghost use Rattle.std.specs.Prelude.{◌≡◌, ◌+◌, ◌<◌, ◌≤◌, [], IfOk, IsErrOf};
 ghost use Rattle.tcs_io.specs.Faults.{Rose};
 ghost use Rattle.schedule_text.specs.Scripts.{script_start};
-ghost use Rattle.cluster_core.specs.Taking.{Takes, Refuses};
+ghost use Rattle.cluster_core.specs.Taking.{Takes};
 
 use crate::stops::ServeStop;
 use schedule_text::{LineFault, Lines, ScriptForm, ScriptItem, ScriptReader};
@@ -45,7 +45,8 @@ impl Reading {
     pub(crate) fn take<S: Source>(&mut self, input: &mut S) -> Result<ScriptItem, ServeStop>
         requires { self.old.number < 4294967295 }
         ensures item { IfOk result (λ item. Takes self.old self.new item (S.left input.old) (S.left input.new)) }
-        ensures stop { IfErr result (Refuses self.old (S.left input.old) (S.left input.new)) }
+        ensures unwritten { IsErrOf result ServeStop.WriteFault → ⊥ }
+        ensures unlinked { IsErrOf result ServeStop.LinkFault → ⊥ }
         ensures count { S.faults input.old ≤ S.faults input.new }
         ensures fault { IsErrOf result ServeStop.ReadFault → Rose (S.faults input.old) (S.faults input.new) }
     {
