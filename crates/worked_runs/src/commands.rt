@@ -126,7 +126,7 @@ impl Display for Done {
 }
 
 /// Does what a command says.
-pub(crate) fn done<R: Files + AllocGlobal>(rt: &R, case: Case) -> Result<Done, Error> {
+pub(crate) fn carry_out<R: Files + AllocGlobal>(rt: &R, case: Case) -> Result<Done, Error> {
     let input = bytes_of(rt, case.input)?;
     let output = bytes_of(rt, case.output)?;
     let ran = run_of(rt.alloc(), case.words, &input, 4096)?;

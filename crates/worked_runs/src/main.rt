@@ -12,7 +12,7 @@ mod reading_back;
 mod replaying;
 
 use anyhow::Error;
-use commands::{COMMANDS, done};
+use commands::{COMMANDS, carry_out};
 use guards::guards_agree;
 use names::WORKED_RUNS;
 use reading_back::ends;
@@ -34,7 +34,7 @@ fn main(rt: HostRuntime) -> Result<(), Error> {
     let left = left_at_the_bad_line(&rt)?;
     println!(rt; "bad_line_order, byte by byte: {left} bytes are not read")?;
     for case in COMMANDS {
-        let done = done(&rt, case)?;
+        let done = carry_out(&rt, case)?;
         println!(rt; "{done}")?;
     }
     Ok(())
